@@ -1,0 +1,117 @@
+-- The directory by its entries, and what its making and its check keep, byte by byte.
+use Prim.Native.Nat.{ℕ, zero, suc, _+_, _*_, _/_, _%_, _^_, _≤_, _<_}
+use mathlib.Core.Bool.{Bool, true, false, _&&_}
+use mathlib.Core.Path.{_≡_, refl, sym, ap, _∙_}
+use mathlib.Core.List.{List, [], _∷_, map}
+use native.Mathlib.Omega.{arith}
+use native.Mathlib.Nat.{add-zero, zero-add}
+use lib.ListN.{length, getD, set, length-map}
+use lib.Seq.{ext-getD, getD-set-same, getD-set-other}
+use lib.Dec.{eqb}
+use borrow.Author.Tests.{eqb-true, eq-eqb}
+use Rattle.order.specs.Order.{from}
+use Rattle.order.proofs.Cases.{same?}
+use Rattle.bitmap.specs.Bits.{onesBefore}
+use Rattle.bitmap.specs.Directory.{blockBytes, blockBits, blocks, directoryOf, alike}
+
+length-from : (a n : ℕ) → length (from a n) ≡ n
+unfolding from
+length-from a zero = refl
+length-from a (suc n) = rw (length-from (suc a) n)
+
+getD-from : (f : ℕ → ℕ) (a n k : ℕ) → k < n → getD (map f (from a n)) k 0 ≡ f (a + k)
+unfolding from
+getD-from f a zero k h = absurd (omega arith)
+getD-from f a (suc n) zero h = rw add-zero
+getD-from f a (suc n) (suc k) h = let on : a + suc k ≡ suc a + k = omega arith in rw on (getD-from f (suc a) n k (omega arith))
+
+-- it has an entry for each block
+pub length-directory : (bytes : List ℕ) → length (directoryOf bytes) ≡ blocks (length bytes)
+unfolding directoryOf
+length-directory bytes = rw (length-map, length-from)
+
+-- and this is the entry
+pub directory-at : (bytes : List ℕ) (k : ℕ) → k < blocks (length bytes) → getD (directoryOf bytes) k 0 ≡ onesBefore bytes (blockBits * k)
+unfolding directoryOf
+directory-at bytes k h = rw zero-add at (getD-from (λ (k : ℕ). onesBefore bytes (blockBits * k)) 0 (blocks (length bytes)) k h)
+
+-- a list with these entries is the directory
+pub directory-is : (bytes d : List ℕ) → length d ≡ blocks (length bytes) → ((k : ℕ) → k < blocks (length bytes) → getD d k 0 ≡ onesBefore bytes (blockBits * k)) → d ≡ directoryOf bytes
+directory-is bytes d l f = ext-getD 0 d (directoryOf bytes) (rw length-directory l) (λ k h. rw (directory-at bytes k (omega arith)) (f k (omega arith)))
+
+-- a list is like itself
+pub alike-same : (xs : List ℕ) → alike xs xs ≡ true
+unfolding alike
+alike-same [] = refl
+alike-same (x ∷ xs) = rw (eq-eqb x x refl) (alike-same xs)
+
+-- lists that are alike are equal
+pub alike-true : (xs ys : List ℕ) → alike xs ys ≡ true → xs ≡ ys
+unfolding alike
+alike-true [] [] e = refl
+alike-true [] (y ∷ ys) e = absurd (let z : _≡_ {A = ℕ} 0 1 = cc in omega arith)
+alike-true (x ∷ xs) [] e = absurd (let z : _≡_ {A = ℕ} 0 1 = cc in omega arith)
+alike-true (x ∷ xs) (y ∷ ys) e = go (eqb x y) refl e (alike-true xs ys)
+  where
+    go : (t : Bool) → eqb x y ≡ t → t && alike xs ys ≡ true → (alike xs ys ≡ true → xs ≡ ys) → x ∷ xs ≡ y ∷ ys
+    go true f k r = let a = eqb-true x y f in let b = r k in cc
+    go false f k r = absurd (let z : _≡_ {A = ℕ} 0 1 = cc in omega arith)
+
+-- lists that are not equal are not alike
+pub alike-false : (xs ys : List ℕ) → (xs ≡ ys → ⊥) → false ≡ alike xs ys
+alike-false xs ys n = go (alike xs ys) refl
+  where
+    go : (t : Bool) → alike xs ys ≡ t → false ≡ t
+    go true e = absurd (n (alike-true xs ys e))
+    go false e = refl
+
+-- the entry of a byte's block
+pub block-entry : (bytes d : List ℕ) (i : ℕ) → d ≡ directoryOf bytes → i < length bytes → getD d (i / blockBytes) 0 ≡ onesBefore bytes (8 * (i / blockBytes * blockBytes))
+unfolding blocks
+block-entry bytes d i e h =
+    let at : blockBits * (i / blockBytes) ≡ 8 * (i / blockBytes * blockBytes) = omega arith in
+    rw e (rw at at (directory-at bytes (i / blockBytes) (omega arith)))
+
+-- it is there
+pub block-there : (bytes d : List ℕ) (i : ℕ) → d ≡ directoryOf bytes → i < length bytes → i / blockBytes < length d
+unfolding blocks
+block-there bytes d i e h = rw (e, length-directory) (omega arith)
+
+-- the entries of the blocks that begin before byte i are right
+abbrev pub Filled : List ℕ → ℕ → List ℕ → Type 0
+Filled bytes i d = (k : ℕ) → blockBytes * k < i → getD d k 0 ≡ onesBefore bytes (blockBits * k)
+
+-- a block begins at byte i, and its entry is written
+pub filled-store : (bytes d : List ℕ) (i n : ℕ) → Filled bytes i d → i % blockBytes ≡ 0 → i / blockBytes < length d → n ≡ onesBefore bytes (8 * i)
+    → Filled bytes (i + 1) (set d (i / blockBytes) n)
+filled-store bytes d i n f e h s k l =
+    same? k (i / blockBytes) (λ r. rw (r, getD-set-same d (i / blockBytes) n 0 h, s) (ap (onesBefore bytes) (omega arith)))
+    (λ r. getD-set-other d (i / blockBytes) k n 0 r ∙ f k (omega arith))
+
+-- none begins there
+pub filled-skip : (bytes d : List ℕ) (i : ℕ) → Filled bytes i d → (i % blockBytes ≡ 0 → ⊥) → Filled bytes (i + 1) d
+filled-skip bytes d i f n k l = f k (omega arith)
+
+-- at the end it is the directory
+pub filled-all : (bytes d : List ℕ) (i : ℕ) → Filled bytes i d → length bytes ≤ i → length d ≡ blocks (length bytes) → d ≡ directoryOf bytes
+unfolding blocks
+filled-all bytes d i f h l = directory-is bytes d l (λ k m. f k (omega arith))
+
+-- an entry that is right
+pub filled-test : (bytes d : List ℕ) (i : ℕ) → Filled bytes i d → i % blockBytes ≡ 0 → getD d (i / blockBytes) 0 ≡ onesBefore bytes (8 * i) → Filled bytes (i + 1) d
+filled-test bytes d i f e h k l =
+    same? k (i / blockBytes) (λ r. rw r (h ∙ ap (onesBefore bytes) (omega arith))) (λ r. f k (omega arith))
+
+-- an entry that is wrong
+pub filled-wrong : (bytes d : List ℕ) (i : ℕ) → i < length bytes → i % blockBytes ≡ 0 → (getD d (i / blockBytes) 0 ≡ onesBefore bytes (8 * i) → ⊥)
+    → false ≡ alike d (directoryOf bytes)
+filled-wrong bytes d i h e n =
+    alike-false d (directoryOf bytes) (λ r. n (block-entry bytes d i r h ∙ ap (onesBefore bytes) (omega arith)))
+
+-- a length that is wrong
+pub length-wrong : (bytes d : List ℕ) → (length d ≡ blocks (length bytes) → ⊥) → false ≡ alike d (directoryOf bytes)
+length-wrong bytes d n = alike-false d (directoryOf bytes) (λ r. n (ap length r ∙ length-directory bytes))
+
+-- every entry is right
+pub filled-right : (bytes d : List ℕ) (i : ℕ) → Filled bytes i d → length bytes ≤ i → length d ≡ blocks (length bytes) → true ≡ alike d (directoryOf bytes)
+filled-right bytes d i f h l = rw (← filled-all bytes d i f h l) (sym (alike-same d))

@@ -1,0 +1,45 @@
+-- `bitmap::ones_in` meets its contract. The invariant: the ones so far are those from the first byte on.
+use Prim.Native.Nat.{_+_, _*_, _-_, _≤_}
+use mathlib.Core.Path.{_≡_}
+use native.Mathlib.Omega.{arith}
+use Rattle.bitmap.specs.Bits.{onesBefore}
+use Rattle.bitmap.proofs.Bytes.{byte-step}
+use Rattle.bitmap.proofs.ones_in.Statement.{statement}
+use Rattle.bitmap.proofs.ones_in.Tie as tie
+
+abbrev Inv-loop : tie.InvT-loop
+Inv-loop bytes from to ones₀ i₀ ones i =
+    (from ≤ i) × (i ≤ to) × (onesBefore bytes (8 * from) + ones ≡ onesBefore bytes (8 * i)) × (ones + 8 * from ≤ 8 * i)
+
+abbrev μ-loop : tie.MeasureT-loop
+μ-loop bytes from to ones₀ i₀ ones i = to - i
+
+loop-holds : tie.Need-loop-holds Inv-loop μ-loop
+loop-holds c = omega arith
+
+shared-slice-read-ones : tie.Need-shared-slice-read-ones Inv-loop μ-loop
+shared-slice-read-ones c = omega arith
+
+add-ones : tie.Need-add-ones Inv-loop μ-loop
+add-ones c =
+    let i = c .before .before .loop .i in
+    omega (arith, byte-step (c .before .before .before .args .bytes .now) i (c .shared-slice-known .given i .fits))
+
+add-i : tie.Need-add-i Inv-loop μ-loop
+add-i c = omega arith
+
+loop-less : tie.Need-loop-less Inv-loop μ-loop
+loop-less c = omega arith
+
+loop-again : tie.Need-loop-again Inv-loop μ-loop
+loop-again c =
+    let i = c .before .before .loop .i in
+    omega (arith, byte-step (c .before .before .before .args .bytes .now) i (c .shared-slice-known .given i .fits))
+
+returns : tie.Need-returns Inv-loop μ-loop
+returns c =
+    let at : c .before .loop .i ≡ c .before .before .args .to = omega arith in
+    omega (arith, rw at at (c .before .loop .inv .2))
+
+pub ones-in-spec : {M : Type 1} → statement M
+ones-in-spec = tie.close (tie.spec Inv-loop μ-loop loop-holds shared-slice-read-ones add-ones add-i loop-less loop-again returns)
