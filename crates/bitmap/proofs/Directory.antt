@@ -1,5 +1,5 @@
 -- The directory by its entries, and what its making and its check keep, byte by byte.
-use Prim.Native.Nat.{ℕ, zero, suc, _+_, _*_, _/_, _%_, _^_, _≤_, _<_}
+use Prim.Native.Nat.{ℕ, zero, suc, _+_, _*_, _/_, _%_, _≤_, _<_}
 use mathlib.Core.Bool.{Bool, true, false, _&&_}
 use mathlib.Core.Path.{_≡_, refl, sym, ap, _∙_}
 use mathlib.Core.List.{List, [], _∷_, map}
@@ -14,11 +14,13 @@ use Rattle.order.proofs.Cases.{same?}
 use Rattle.bitmap.specs.Bits.{onesBefore}
 use Rattle.bitmap.specs.Directory.{blockBytes, blockBits, blocks, directoryOf, alike}
 
+-- n numbers are n
 length-from : (a n : ℕ) → length (from a n) ≡ n
 unfolding from
 length-from a zero = refl
 length-from a (suc n) = rw (length-from (suc a) n)
 
+-- the k-th of n numbers from a on, under f
 getD-from : (f : ℕ → ℕ) (a n k : ℕ) → k < n → getD (map f (from a n)) k 0 ≡ f (a + k)
 unfolding from
 getD-from f a zero k h = absurd (omega arith)

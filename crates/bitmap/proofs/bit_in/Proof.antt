@@ -1,4 +1,3 @@
--- `bitmap::bit_in` meets its contract.
 use borrow.Author.Needs.{needs}
 use Rattle.bitmap.specs.Bits.{bitOf}
 use Rattle.bitmap.proofs.bit_in.Statement.{statement}

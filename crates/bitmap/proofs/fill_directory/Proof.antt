@@ -1,13 +1,12 @@
--- `bitmap::fill_directory` meets its contract. The invariant: the entries of the blocks passed are written, and the ones are those so far.
-use Prim.Native.Nat.{ℕ, _+_, _*_, _-_, _/_, _≤_, _<_}
-use mathlib.Core.Path.{_≡_, refl, sym, _∙_}
+-- The loop keeps that the entries of the blocks passed are written, and that the ones are those so far.
+use Prim.Native.Nat.{_*_, _-_, _/_, _^_, _≤_, _<_}
+use mathlib.Core.Path.{_≡_, refl, _∙_}
 use mathlib.Core.Logic.{⊎-elim}
 use native.Mathlib.Omega.{arith}
-use borrow.Author.Needs.{needs}
 use lib.ListN.{length, length-set}
 use Rattle.bitmap.specs.Bits.{onesBefore}
 use Rattle.bitmap.proofs.Ones.{ones-before-mono}
-use Rattle.bitmap.specs.Directory.{blocks}
+use Rattle.bitmap.specs.Directory.{blockBytes, blocks}
 use Rattle.bitmap.proofs.Bytes.{byte-step}
 use Rattle.bitmap.proofs.Directory.{Filled, filled-store, filled-skip, filled-all}
 use Rattle.bitmap.proofs.fill_directory.Statement.{statement}
@@ -24,7 +23,7 @@ loop-holds : tie.Need-loop-holds Inv-loop μ-loop
 loop-holds c = (omega arith, refl, (unfold onesBefore in refl), λ k h. absurd (omega arith))
 
 -- the ones so far fit
-few : (c : tie.In-loop Inv-loop μ-loop) → c .before .loop .ones < 65536
+few : (c : tie.In-loop Inv-loop μ-loop) → c .before .loop .ones < 2 ^ 16
 few c =
     let w = c .before .loop in
     let bytes = c .before .before .args .bytes .now in
@@ -34,7 +33,7 @@ cast-directory : tie.Need-cast-directory Inv-loop μ-loop
 cast-directory c = omega (arith, few (c .before))
 
 -- the entry is there
-there : (c : tie.In-loop Inv-loop μ-loop) → c .before .loop .i / 64 < length (c .before .loop .directory)
+there : (c : tie.In-loop Inv-loop μ-loop) → c .before .loop .i / blockBytes < length (c .before .loop .directory)
 unfolding blocks
 there c = omega arith
 

@@ -1,4 +1,4 @@
--- `bitmap::ones_in` meets its contract. The invariant: the ones so far are those from the first byte on.
+-- The loop keeps that the ones so far are those from the first byte on.
 use Prim.Native.Nat.{_+_, _*_, _-_, _≤_}
 use mathlib.Core.Path.{_≡_}
 use native.Mathlib.Omega.{arith}

@@ -1,5 +1,4 @@
--- `bitmap::ones_of` meets its contract: the machine's count is that of the four bits.
-use native.Mathlib.Omega.{arith}
+-- The machine's count is that of the four bits.
 use Rattle.bitmap.proofs.Bytes.{ones-of-group}
 use Rattle.bitmap.proofs.ones_of.Statement.{statement}
 use Rattle.bitmap.proofs.ones_of.Tie as tie
