@@ -1,0 +1,78 @@
+-- Written and read: each undoes the other, plain and marked.
+use Prim.Native.Nat.{ℕ, zero, suc, _+_, _*_, _-_, _/_, _%_, _≤_}
+use mathlib.Core.Bool.{Bool, true, false, not, _&&_, cond}
+use mathlib.Core.Path.{_≡_, refl, sym, ap, _∙_}
+use mathlib.Core.List.{List, [], _∷_}
+use native.Mathlib.Nat.{div-div-eq-div-mul}
+use native.Mathlib.Omega.{arith}
+use lib.IntN.{ℤ, pos, negsuc, natAbs, negℤ}
+use lib.ListN.{getD}
+use lib.Dec.{eqb}
+use borrow.Author.Tests.{eqb-true, ne-eqb}
+use Rattle.refusal.specs.Answer.{Answer, Served, Refused, _unless_, _then_}
+use Rattle.measure.specs.Measure.{maxMeasure, isMark, has, measure, valueOf, readOf, signedOf, minusZero, readMarkedOf, written, writtenMarked}
+use Rattle.measure.specs.Parts.{digitOf, halfOf, withMark}
+use Rattle.measure.proofs.Places.{Measure, five-bytes, digit-read, digit-written, half-read, half-written, measure-is, measure-value, measure-read}
+
+-- a refusal is no value
+no-value : {A B : Type 0} {k : ℕ} {a : A} → Refused k ≡ Served a → B
+no-value e = let z : _≡_ {A = ℕ} 0 1 = cc in absurd (omega arith)
+
+-- what is written is read as the number that was written
+pub read-written : (n : ℕ) → n ≤ maxMeasure → readOf (written n) ≡ Served n
+unfolding written
+read-written n h =
+    let a = digit-read (n / 200 % 10) (omega arith) in
+    let b = digit-read (n / 20 % 10) (omega arith) in
+    let c = digit-read (n / 2 % 10) (omega arith) in
+    let d = half-read (n % 2) (omega arith) in
+    let x : n / 2 ≡ n / 20 * 10 + n / 2 % 10 = omega (arith, div-div-eq-div-mul n 2 10) in
+    let y : n / 20 ≡ n / 200 * 10 + n / 20 % 10 = omega (arith, div-div-eq-div-mul n 20 10) in
+    let z : n / 200 % 10 ≡ n / 200 = omega arith in
+    let m : Measure (written n) = omega arith in
+    measure-read (written n) m ∙ ap Served (measure-value (written n) m ∙ omega arith)
+
+-- a measure is its value, written
+pub measure-written : (t : List ℕ) → Measure t → (t ≡ written (valueOf t)) × (valueOf t ≤ maxMeasure)
+unfolding written
+measure-written t m =
+    let a = digit-written (getD t 0 0) (m .hundreds) in
+    let b = digit-written (getD t 1 0) (m .tens) in
+    let c = digit-written (getD t 2 0) (m .ones) in
+    let d = half-written (getD t 4 0) (m .half) in
+    let v = measure-value t m in
+    let n = valueOf t in
+    let a′ : getD t 0 0 ≡ 48 + n / 200 % 10 = omega arith in
+    let b′ : getD t 1 0 ≡ 48 + n / 20 % 10 = omega arith in
+    let c′ : getD t 2 0 ≡ 48 + n / 2 % 10 = omega arith in
+    let d′ : getD t 4 0 ≡ 48 + 5 * (n % 2) = omega arith in
+    (cc (five-bytes t (m .long), a′, b′, c′, d′, m .comma), omega arith)
+
+-- what is read as a number is that number, written
+pub written-read : (t : List ℕ) (n : ℕ) → readOf t ≡ Served n → (t ≡ written n) × (n ≤ maxMeasure)
+unfolding readOf
+written-read t n = by-test (has measure t) refl
+  where
+    by-test : (s : Bool) → has measure t ≡ s → (13 unless s then Served (valueOf t)) ≡ Served n → (t ≡ written n) × (n ≤ maxMeasure)
+    by-test true e f = let same : n ≡ valueOf t = cc in rw same (measure-written t (measure-is t e))
+    by-test false e f = no-value f
+
+-- a marked text by its mark and the reading of the rest
+pub marked-served : (mark : ℕ) (t : List ℕ) (n : ℕ) → readOf t ≡ Served n → readMarkedOf (mark ∷ t) ≡ withMark mark n
+unfolding readMarkedOf readOf has withMark minusZero
+marked-served mark t n = by-tests (isMark mark) (has measure t)
+  where
+    by-tests : (s u : Bool) → (13 unless u then Served (valueOf t)) ≡ Served n → (13 unless (s && u) then 13 unless not (eqb mark 45 && eqb (valueOf t) 0) then Served (signedOf mark (valueOf t))) ≡ (13 unless s then 13 unless not (eqb mark 45 && eqb n 0) then Served (signedOf mark n))
+    by-tests true true e = let same : n ≡ valueOf t = cc in rw same
+    by-tests false true e = refl
+    by-tests s false e = no-value e
+
+-- and refused where the rest is
+pub marked-refused : (mark k : ℕ) (t : List ℕ) → readOf t ≡ Refused k → readMarkedOf (mark ∷ t) ≡ Refused 13
+unfolding readMarkedOf readOf has
+marked-refused mark k t = by-tests (isMark mark) (has measure t)
+  where
+    by-tests : (s u : Bool) → (13 unless u then Served (valueOf t)) ≡ Refused k → (13 unless (s && u) then 13 unless not (minusZero (mark ∷ t)) then Served (signedOf mark (valueOf t))) ≡ Refused 13
+    by-tests s true e = no-value (sym e)
+    by-tests true false e = refl
+    by-tests false false e = refl
