@@ -21,6 +21,12 @@ abbrev pub _then_ : {A B : Type 0} → Answer A → Answer B → Answer B
 Served x then a = a
 Refused n then a = Refused n
 
+-- the first refusal; where the first answer is served, as is said of what it returns
+infixr 10 _into_
+abbrev pub _into_ : {A B : Type 0} → Answer A → (A → Answer B) → Answer B
+Served x into f = f x
+Refused n into f = Refused n
+
 -- what is left in a list of n places: what was found and then zeros, and zeros alone after a refusal
 unfoldable pub leftIn : {A : Type 0} → Answer A → List ℕ → ℕ → List ℕ
 leftIn (Served x) found n = found ++ replicate (n - length found) 0
