@@ -46,7 +46,7 @@ returns-2 c =
     let w = c .before .before .before .before .before .loop in
     let a = c .before .before .before .before .before .before .before .before .before .before .args in
     filled-wrong (a .bytes .now) (a .directory .now) (w .i) (c .before .before .before .before .loop-test .taken) (c .before .before .before .if2 .taken)
-    (λ e. c .if3 .taken (c .before .wide-entry .ensures .0 ∙ e ∙ sym (w .inv .1)))
+    (λ e. c .if3 .taken (omega (arith, c .before .wide-entry .ensures .0, e, w .inv .1)))
 
 shared-slice-read-ones : tie.Need-shared-slice-read-ones Inv-loop μ-loop
 shared-slice-read-ones c = omega arith
@@ -69,7 +69,7 @@ loop-again c =
     let a = c .before .before .before .before .before .before .before .before .args in (
       omega arith,
       omega (arith, byte-step (a .bytes .now) (w .i) (c .shared-slice-known4 .given (w .i) .fits)),
-      ⊎-elim (λ v. filled-test (a .bytes .now) (a .directory .now) (w .i) (w .inv .2) (v .0 .taken) (sym (v .2 .ensures .0) ∙ v .3 .left ∙ w .inv .1))
+      ⊎-elim (λ v. filled-test (a .bytes .now) (a .directory .now) (w .i) (w .inv .2) (v .0 .taken) (omega (arith, v .2 .ensures .0, v .3 .left, w .inv .1)))
           (λ v. filled-skip (a .bytes .now) (a .directory .now) (w .i) (w .inv .2) (v .left))
           (c .before .if2 .came),
     )
