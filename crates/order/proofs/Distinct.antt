@@ -37,11 +37,12 @@ distinct-new (a ∷ []) j lt e = absurd (omega arith)
 distinct-new (a ∷ b ∷ l) zero lt e = rw (ne-eqb a b (λ q. e (sym q)))
 distinct-new (a ∷ b ∷ l) (suc j) lt e = ap (unless-first a) (distinct-new (b ∷ l) j (omega arith) e) ∙ unless-snoc a b (distinct (take j l)) (getD (b ∷ l) (suc j) 0)
 
--- both for a place after the first
+-- the same of a place after the first
 same-at : (l : List ℕ) (i : ℕ) → 1 ≤ i → i < length l → getD l i 0 ≡ getD l (i - 1) 0 → distinct (take (suc i) l) ≡ distinct (take i l)
 same-at l zero low lt e = absurd (omega arith)
 same-at l (suc j) low lt e = let q : suc j - 1 ≡ j = omega arith in distinct-same l j lt (rw q at e)
 
+-- and of another there
 new-at : (l : List ℕ) (i : ℕ) → 1 ≤ i → i < length l → (getD l i 0 ≡ getD l (i - 1) 0 → ⊥) → distinct (take (suc i) l) ≡ distinct (take i l) ++ getD l i 0 ∷ []
 new-at l zero low lt e = absurd (omega arith)
 new-at l (suc j) low lt e = let q : suc j - 1 ≡ j = omega arith in distinct-new l j lt (rw q at e)
@@ -137,3 +138,7 @@ tidied l p m n r room long e s =
 -- what is found determines all that is left
 pub left-one : {found rest m o : List ℕ} {n r s : ℕ} → Left found rest m n r → Left found rest o n s → (r ≡ s) × (m ≡ o)
 left-one a b = let q = a .many ∙ sym (b .many) in (q, a .has ∙ rw q (sym (b .has)))
+
+-- the first r are what is found
+pub left-take : {found rest m : List ℕ} {n r : ℕ} → Left found rest m n r → take r m ≡ found
+left-take {found} {rest} {n = n} {r = r} s = rw (s .has, append-assoc) (take-at found (replicate (n - r) 0 ++ rest) r (sym (s .many)))
