@@ -34,7 +34,7 @@ usage:
   second sheets N SEED DIR          writes the fixed sheets and N random ones to DIR
   second boards N SEED              the stream of the fixed boards and N random ones, for check
   second texts N SEED               the stream of the fixed texts and N random ones, for measure
-  second cells N SEED               a stream of N random lists of cells, for build
+  second cells N SEED               the stream of the fixed lists of cells and N random ones, for build
   second calls N SEED               the stream of the fixed sheets and N random ones, for sheet
   second questions N SEED           the stream of the fixed questions and N random ones, for nearest
   second examples DIR               writes the sheets with reports written by hand to DIR, as NAME.sheet and NAME.report

@@ -1,7 +1,7 @@
 //! Cases for the calls that have lists lent to them: build, the sheet reader and nearest.
 
 use crate::batch::Writer;
-use crate::board::{bitmap, Cell};
+use crate::board::{bitmap, cell, Cell};
 use crate::generate::{boards, crowded, pattern, sheets};
 use crate::random::Random;
 use crate::rules::*;
@@ -17,21 +17,42 @@ fn about(random: &mut Random, need: usize) -> usize {
     }
 }
 
-/// The stream of `count` cases for build.
+/// The stream of the fixed lists of cells and `count` random ones, for build.
 pub fn build_stream(count: usize, seed: u64) -> Vec<u8> {
     let mut random = Random::new(seed);
     let mut writer = Writer::default();
+    let cells = |count: i64| (0..count).map(|i| cell(i / 64, i % 64)).collect::<Vec<Cell>>();
+    // 4,096 cells, each twice, and one cell too many; the room is short in turn, to show which number goes first
+    let (most, too_many) = ([cells(4096), cells(4096)].concat(), cells(4097));
+    for (list, work, room) in
+        [(&most, 8192, 9000), (&most, 8191, 9000), (&too_many, 4097, 9000), (&too_many, 4096, 9000), (&too_many, 4097, 0)]
+    {
+        let (rows, cols) = split(list);
+        write_build(&mut writer, 7, [work, room], &rows, &cols);
+    }
     for _ in 0..count {
         build_case(&mut random, &mut writer);
     }
     writer.stream
 }
 
+fn split(cells: &[Cell]) -> (Vec<i64>, Vec<i64>) {
+    cells.iter().map(|c| (c.row, c.col)).unzip()
+}
+
+fn write_build(writer: &mut Writer, height: u32, rooms: [usize; 2], rows: &[i64], cols: &[i64]) {
+    writer.number(height);
+    rooms.into_iter().for_each(|room| writer.count(room));
+    writer.count(rows.len());
+    writer.count(cols.len());
+    rows.iter().chain(cols).for_each(|x| writer.signed(*x));
+}
+
 fn build_case(random: &mut Random, writer: &mut Writer) {
     let right_height = random.within(1..=i64::from(MAX_HEIGHT)) as u32;
     let cells = pattern::joints(random, right_height);
     let need = bitmap(right_height, &cells.iter().copied().collect()).bytes.len();
-    let (mut rows, mut cols): (Vec<i64>, Vec<i64>) = cells.iter().map(|c| (c.row, c.col)).unzip();
+    let (mut rows, mut cols) = split(&cells);
     let mut height = right_height;
     match random.below(12) {
         0 => height = *random.pick(&[0, 11, 255]),
@@ -43,12 +64,8 @@ fn build_case(random: &mut Random, writer: &mut Writer) {
         }
         _ => {}
     }
-    writer.number(height);
-    writer.count(about(random, rows.len()));
-    writer.count(about(random, need));
-    writer.count(rows.len());
-    writer.count(cols.len());
-    rows.iter().chain(&cols).for_each(|x| writer.signed(*x));
+    let rooms = [about(random, rows.len()), about(random, need)];
+    write_build(writer, height, rooms, &rows, &cols);
 }
 
 /// The stream of the generator's sheets, `count` of them random, for the sheet reader.
