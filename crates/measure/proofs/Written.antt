@@ -1,21 +1,21 @@
 -- Written and read: each undoes the other, plain and marked.
-use Prim.Native.Nat.{ℕ, zero, suc, _+_, _*_, _-_, _/_, _%_, _≤_}
-use mathlib.Core.Bool.{Bool, true, false, not, _&&_, cond}
+use Prim.Native.Nat.{ℕ, zero, suc, _+_, _*_, _/_, _%_, _≤_}
+use mathlib.Core.Bool.{Bool, true, false, not, _&&_, _||_, cond}
 use mathlib.Core.Path.{_≡_, refl, sym, ap, _∙_}
 use mathlib.Core.List.{List, [], _∷_}
 use native.Mathlib.Nat.{div-div-eq-div-mul}
 use native.Mathlib.Omega.{arith}
 use lib.IntN.{ℤ, pos, negsuc, natAbs, negℤ}
-use lib.ListN.{getD}
+use lib.ListN.{getD, drop}
 use lib.Dec.{eqb}
 use borrow.Author.Tests.{eqb-true, ne-eqb}
 use Rattle.refusal.specs.Answer.{Answer, Served, Refused, _unless_, _then_}
-use Rattle.measure.specs.Measure.{maxMeasure, isMark, has, measure, valueOf, readOf, signedOf, minusZero, readMarkedOf, written, writtenMarked}
-use Rattle.measure.specs.Parts.{digitOf, halfOf, withMark}
+use Rattle.measure.specs.Measure.{maxMeasure, isMark, has, measure, marked, valueOf, readOf, signedOf, minusZero, readMarkedOf, written, writtenMarked}
+use Rattle.measure.specs.Parts.{withMark}
 use Rattle.measure.proofs.Places.{Measure, five-bytes, digit-read, digit-written, half-read, half-written, measure-is, measure-value, measure-read}
 
 -- a refusal is no value
-no-value : {A B : Type 0} {k : ℕ} {a : A} → Refused k ≡ Served a → B
+pub no-value : {A B : Type 0} {k : ℕ} {a : A} → Refused k ≡ Served a → B
 no-value e = let z : _≡_ {A = ℕ} 0 1 = cc in absurd (omega arith)
 
 -- what is written is read as the number that was written
@@ -76,3 +76,55 @@ marked-refused mark k t = by-tests (isMark mark) (has measure t)
     by-tests s true e = no-value (sym e)
     by-tests true false e = refl
     by-tests false false e = refl
+
+-- a text that is read as no number is refused with 13
+pub served-or-13 : (t : List ℕ) → ((n : ℕ) → readOf t ≡ Served n → ⊥) → readOf t ≡ Refused 13
+unfolding readOf
+served-or-13 t = by-test (has measure t)
+  where
+    by-test : (s : Bool) → ((n : ℕ) → (13 unless s then Served (valueOf t)) ≡ Served n → ⊥) → (13 unless s then Served (valueOf t)) ≡ Refused 13
+    by-test true none = absurd (none (valueOf t) refl)
+    by-test false none = refl
+
+-- the same with a mark
+pub marked-served-or-13 : (t : List ℕ) → ((z : ℤ) → readMarkedOf t ≡ Served z → ⊥) → readMarkedOf t ≡ Refused 13
+unfolding readMarkedOf
+marked-served-or-13 t = by-tests (has marked t) (minusZero t)
+  where
+    by-tests : (s u : Bool) → ((z : ℤ) → (13 unless s then 13 unless not u then Served (signedOf (getD t 0 0) (valueOf (drop 1 t)))) ≡ Served z → ⊥) → (13 unless s then 13 unless not u then Served (signedOf (getD t 0 0) (valueOf (drop 1 t)))) ≡ Refused 13
+    by-tests true false none = absurd (none (signedOf (getD t 0 0) (valueOf (drop 1 t))) refl)
+    by-tests true true none = refl
+    by-tests false u none = refl
+
+-- what is written with a mark is read as the number that was written
+pub read-written-marked : (z : ℤ) → natAbs z ≤ maxMeasure → readMarkedOf (writtenMarked z) ≡ Served z
+unfolding writtenMarked withMark isMark signedOf
+read-written-marked (pos n) h = marked-served 43 (written n) n (read-written n h)
+read-written-marked (negsuc n) h = marked-served 45 (written (suc n)) (suc n) (read-written (suc n) h) ∙ rw (ne-eqb (suc n) 0 (omega arith))
+
+-- the marked measure of a mark and a size
+with-mark : (mark n : ℕ) (z : ℤ) → withMark mark n ≡ Served z → (mark ∷ written n ≡ writtenMarked z) × (natAbs z ≡ n)
+unfolding writtenMarked withMark isMark signedOf
+with-mark mark n z = by-tests (eqb mark 43) (eqb mark 45) refl refl n
+  where
+    by-tests : (s t : Bool) → eqb mark 43 ≡ s → eqb mark 45 ≡ t → (n : ℕ) → (13 unless (s || t) then 13 unless not (t && eqb n 0) then Served (cond t (negℤ (pos n)) (pos n))) ≡ Served z → (mark ∷ written n ≡ writtenMarked z) × (natAbs z ≡ n)
+    by-tests true true e f n h = absurd (omega (arith, eqb-true mark 43 e, eqb-true mark 45 f))
+    by-tests true false e f n h = let same : z ≡ pos n = cc in rw (same, eqb-true mark 43 e) (refl, refl)
+    by-tests false true e f zero h = no-value h
+    by-tests false true e f (suc n) h =
+        let as-read : Served (negsuc n) ≡ Served z = rw (ne-eqb (suc n) 0 (omega arith)) at h in
+        let same : z ≡ negsuc n = cc in rw (same, eqb-true mark 45 f) (refl, refl)
+    by-tests false false e f n h = no-value h
+
+-- what is read as a signed number is that number, written with its mark
+pub written-read-marked : (t : List ℕ) (z : ℤ) → readMarkedOf t ≡ Served z → (t ≡ writtenMarked z) × (natAbs z ≤ maxMeasure)
+unfolding readMarkedOf has
+written-read-marked [] z h = no-value h
+written-read-marked (mark ∷ t) z h = by-reading (readOf t) refl
+  where
+    by-reading : (a : Answer ℕ) → readOf t ≡ a → (mark ∷ t ≡ writtenMarked z) × (natAbs z ≤ maxMeasure)
+    by-reading (Served n) e =
+        let w = written-read t n e in
+        let m = with-mark mark n z (sym (marked-served mark t n e) ∙ h) in
+        (rw (w .0) (m .0), omega arith)
+    by-reading (Refused k) e = no-value (sym (marked-refused mark k t e) ∙ h)

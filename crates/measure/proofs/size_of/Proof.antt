@@ -6,9 +6,8 @@ use lib.IntN.{ℤ, pos, negsuc, natAbs, _+ℤ_, _-ℤ_}
 use lib.Dec.{T}
 use lib.Signed.{ltZ, mag, nonNeg}
 use mir.Syntax.{w32}
-use mir.Val.{SFits, Fits}
+use mir.Val.{SFits}
 use mir.Facts.{toZ-ofZ}
-use borrow.Author.Needs.{needs}
 use borrow.Author.Tests.{ltb-true, lt-ltb}
 use Rattle.measure.proofs.size_of.Statement.{statement}
 use Rattle.measure.proofs.size_of.Tie as tie
