@@ -1,0 +1,32 @@
+-- Answers in a row: what is served has passed every test, and what is refused stays refused, whatever is answered in the end.
+use Prim.Native.Nat.{ℕ}
+use mathlib.Core.Bool.{Bool, true, false}
+use mathlib.Core.Path.{_≡_, refl, sym}
+use native.Mathlib.Omega.{arith}
+use Rattle.refusal.specs.Answer.{Answer, Served, Refused, _unless_, _then_}
+
+-- no answer is both served and refused
+pub not-both : {A : Type 0} {n : ℕ} {x : A} → Refused n ≡ Served x → ⊥
+not-both {n = n} {x = x} e = let z : _≡_ {A = ℕ} 0 1 = cc in omega arith
+
+-- what is served passed the test, and the rest serves it
+pub passed : {A : Type 0} (n : ℕ) (t : Bool) (rest : Answer A) {x : A} → (n unless t then rest) ≡ Served x → (t ≡ true) × (rest ≡ Served x)
+passed n true rest e = (refl, e)
+passed n false rest e = absurd (not-both e)
+
+-- what is served was served at first too
+pub went-on : {A B : Type 0} (a : Answer A) (rest : Answer B) {x : B} → (a then rest) ≡ Served x → (y : A) × (a ≡ Served y) × (rest ≡ Served x)
+went-on (Served y) rest e = (y, refl, e)
+went-on (Refused n) rest e = absurd (not-both e)
+
+-- refused at first, or by the test: refused, whatever is answered in the end
+pub stays : {A B : Type 0} (a : Answer A) (n : ℕ) (t : Bool) (rest : Answer B) {k : ℕ} → (a then n unless t then a) ≡ Refused k → (a then n unless t then rest) ≡ Refused k
+stays (Served x) n true rest e = absurd (not-both (sym e))
+stays (Served x) n false rest {k} e = let same : n ≡ k = cc in rw same
+stays (Refused m) n t rest {k} e = let same : m ≡ k = cc in rw same
+
+-- served at first, and by the test: it goes by the rest
+pub goes-on : {A B : Type 0} (a : Answer A) (n : ℕ) (t : Bool) (rest : Answer B) {x : A} → (a then n unless t then a) ≡ Served x → (a then n unless t then rest) ≡ rest
+goes-on (Served x) n true rest e = refl
+goes-on (Served x) n false rest e = absurd (not-both e)
+goes-on (Refused m) n t rest e = absurd (not-both e)
