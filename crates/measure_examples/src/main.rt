@@ -1,0 +1,153 @@
+// The measure examples of document 01, and the edges of the two forms: one line for each, the text and then the number or the refusal.
+use measure::Marked;
+use measure::Reading;
+use measure::Writing;
+use refusal::Refusal;
+
+// How a refused call is told.
+fn say_refused(refusal: Refusal) {
+    io::write_all(1, b"refused ");
+    io::print_decimal(1, refusal.number() as u64);
+}
+
+fn say_size(n: u32) {
+    io::print_decimal(1, n as u64);
+}
+
+fn say_reading(reading: Reading) {
+    match reading {
+        Reading::Value(n) => say_size(n),
+        Reading::Refused(refusal) => say_refused(refusal),
+    }
+}
+
+fn say_signed(z: i32) {
+    if z < 0 {
+        io::write_all(1, b"-");
+    }
+    say_size(measure::size_of(z));
+}
+
+fn say_marked(marked: Marked) {
+    match marked {
+        Marked::Value(z) => say_signed(z),
+        Marked::Refused(refusal) => say_refused(refusal),
+    }
+}
+
+fn say_done() {
+    io::write_all(1, b"done");
+}
+
+fn say_writing(writing: Writing) {
+    match writing {
+        Writing::Done => say_done(),
+        Writing::Refused(refusal) => say_refused(refusal),
+    }
+}
+
+// `read`, the text, and what is read of it.
+fn show(text: &[u8]) {
+    io::write_all(1, b"read ");
+    io::write_all(1, text);
+    io::write_all(1, b": ");
+    say_reading(measure::read(text));
+    io::write_all(1, b"\n");
+}
+
+fn show_marked(text: &[u8]) {
+    io::write_all(1, b"marked ");
+    io::write_all(1, text);
+    io::write_all(1, b": ");
+    say_marked(measure::read_marked(text));
+    io::write_all(1, b"\n");
+}
+
+// The bytes that are left, each as a number.
+fn say_bytes(list: &[u8]) {
+    for i in 0..list.len() {
+        io::write_all(1, b" ");
+        say_byte(list[i]);
+    }
+    io::write_all(1, b"\n");
+}
+
+fn say_byte(b: u8) {
+    io::print_decimal(1, b as u64);
+}
+
+// `write`, the number, the answer and what is left in the room.
+fn show_write(n: u32, room: &mut [u8]) {
+    io::write_all(1, b"write ");
+    say_size(n);
+    io::write_all(1, b": ");
+    say_writing(measure::write(n, room));
+    say_bytes(room);
+}
+
+fn show_write_marked(z: i32, room: &mut [u8]) {
+    io::write_all(1, b"write marked ");
+    say_signed(z);
+    io::write_all(1, b": ");
+    say_writing(measure::write_marked(z, room));
+    say_bytes(room);
+}
+
+// The examples of document 01 come first.
+fn read_examples() {
+    show(b"012,5");
+    show(b"12,50");
+    show(b"012.5");
+    show(b"012,3");
+    show(b"000,0");
+    show(b"999,5");
+    show(b"");
+    show(b"012,");
+    show(b"012,5 ");
+    show(b"012,500");
+    show(b"-000,5");
+}
+
+fn read_marked_examples() {
+    show_marked(b"-000,5");
+    show_marked(b"-000,0");
+    show_marked(b"+000,0");
+    show_marked(b"+999,5");
+    show_marked(b"-999,5");
+    show_marked(b"012,5");
+    show_marked(b"");
+    show_marked(b"+012,");
+    show_marked(b"+012,50");
+}
+
+// Each room holds something else before.
+fn write_examples() {
+    let mut wide = [255u8; 7];
+    show_write(25, &mut wide);
+    show_write(0, &mut wide);
+    show_write(1999, &mut wide);
+    show_write(2000, &mut wide);
+    let mut just = [255u8; 5];
+    show_write(25, &mut just);
+    let mut short = [255u8; 4];
+    show_write(25, &mut short);
+}
+
+fn write_marked_examples() {
+    let mut wide = [255u8; 7];
+    show_write_marked(-1, &mut wide);
+    show_write_marked(0, &mut wide);
+    show_write_marked(1999, &mut wide);
+    show_write_marked(-1999, &mut wide);
+    show_write_marked(-2000, &mut wide);
+    show_write_marked(-2147483648, &mut wide);
+    let mut short = [255u8; 5];
+    show_write_marked(25, &mut short);
+}
+
+fn main() {
+    read_examples();
+    read_marked_examples();
+    write_examples();
+    write_marked_examples();
+}
