@@ -8,7 +8,7 @@ use lib.ListN.{length, getD}
 use lib.Dec.{leb, eqb}
 use borrow.Author.Tests.{le-leb, leb-true, eqb-true, eq-eqb}
 use Rattle.refusal.specs.Answer.{Served, Refused, _unless_, _then_}
-use Rattle.measure.specs.Measure.{isDigit, isComma, isHalf, measure, has, decimal, valueOf, readOf}
+use Rattle.measure.specs.Measure.{isDigit, isComma, isHalf, measure, hasForm, decimal, valueOf, readOf}
 use Rattle.measure.specs.Parts.{digitOf, halfOf}
 
 -- the digit x, written and read
@@ -80,20 +80,20 @@ both true t e = (refl, e)
 both false t e = let z : _≡_ {A = ℕ} 0 1 = cc in absurd (omega arith)
 
 -- a text that has a form has a byte for each place
-pub has-length : (form : List (ℕ → Bool)) (t : List ℕ) → has form t ≡ true → length t ≡ length form
-unfolding has
+pub has-length : (form : List (ℕ → Bool)) (t : List ℕ) → hasForm form t ≡ true → length t ≡ length form
+unfolding hasForm
 has-length [] [] e = refl
 has-length [] (b ∷ t) e = cc
 has-length (may ∷ form) [] e = cc
-has-length (may ∷ form) (b ∷ t) e = ap suc (has-length form t (both (may b) (has form t) e .1))
+has-length (may ∷ form) (b ∷ t) e = ap suc (has-length form t (both (may b) (hasForm form t) e .1))
 
 -- and each byte is as it may be there
-pub has-place : (form : List (ℕ → Bool)) (t : List ℕ) (i : ℕ) → has form t ≡ true → getD form i (λ _. true) (getD t i 0) ≡ true
-unfolding has
+pub has-place : (form : List (ℕ → Bool)) (t : List ℕ) (i : ℕ) → hasForm form t ≡ true → getD form i (λ _. true) (getD t i 0) ≡ true
+unfolding hasForm
 has-place [] t i e = refl
 has-place (may ∷ form) [] i e = cc
-has-place (may ∷ form) (b ∷ t) zero e = both (may b) (has form t) e .0
-has-place (may ∷ form) (b ∷ t) (suc i) e = has-place form t i (both (may b) (has form t) e .1)
+has-place (may ∷ form) (b ∷ t) zero e = both (may b) (hasForm form t) e .0
+has-place (may ∷ form) (b ∷ t) (suc i) e = has-place form t i (both (may b) (hasForm form t) e .1)
 
 -- a text of five bytes by its bytes
 pub five-bytes : (t : List ℕ) → length t ≡ 5 → t ≡ getD t 0 0 ∷ getD t 1 0 ∷ getD t 2 0 ∷ getD t 3 0 ∷ getD t 4 0 ∷ []
@@ -115,7 +115,7 @@ pub record Measure (t : List ℕ) : Type 0 where
   pub long : length t ≡ 5
 
 -- a text that has the form is a measure
-pub measure-is : (t : List ℕ) → has measure t ≡ true → Measure t
+pub measure-is : (t : List ℕ) → hasForm measure t ≡ true → Measure t
 unfolding isComma
 measure-is t e =
     let at : (i : ℕ) → getD measure i (λ _. true) (getD t i 0) ≡ true = λ i. has-place measure t i e in
@@ -129,14 +129,14 @@ measure-is t e =
     }
 
 -- a measure has the form
-pub measure-has : (t : List ℕ) → Measure t → has measure t ≡ true
-unfolding isComma has
+pub measure-has : (t : List ℕ) → Measure t → hasForm measure t ≡ true
+unfolding isComma hasForm
 measure-has t m =
     let a = sym (digit-test (getD t 0 0)) ∙ le-leb _ 9 (m .hundreds) in
     let b = sym (digit-test (getD t 1 0)) ∙ le-leb _ 9 (m .tens) in
     let c = sym (digit-test (getD t 2 0)) ∙ le-leb _ 9 (m .ones) in
     let e = sym (half-test (getD t 4 0)) ∙ le-leb _ 1 (m .half) in
-    ap (has measure) (five-bytes t (m .long)) ∙ simp (a, b, c, eq-eqb _ 44 (m .comma), e)
+    ap (hasForm measure) (five-bytes t (m .long)) ∙ simp (a, b, c, eq-eqb _ 44 (m .comma), e)
 
 -- what a measure means, in those numbers
 pub measure-value : (t : List ℕ) → Measure t → valueOf t ≡ 2 * (100 * digitOf (getD t 0 0) + 10 * digitOf (getD t 1 0) + digitOf (getD t 2 0)) + halfOf (getD t 4 0)
@@ -155,8 +155,8 @@ measure-read t m = rw (measure-has t m)
 -- any other text is refused
 pub refused : (t : List ℕ) → (Measure t → ⊥) → readOf t ≡ Refused 13
 unfolding readOf
-refused t wrong = by-test (has measure t) refl
+refused t wrong = by-test (hasForm measure t) refl
   where
-    by-test : (s : Bool) → has measure t ≡ s → (13 unless s then Served (valueOf t)) ≡ Refused 13
+    by-test : (s : Bool) → hasForm measure t ≡ s → (13 unless s then Served (valueOf t)) ≡ Refused 13
     by-test true e = absurd (wrong (measure-is t e))
     by-test false e = refl

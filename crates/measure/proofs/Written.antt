@@ -10,7 +10,7 @@ use lib.ListN.{getD, drop}
 use lib.Dec.{eqb}
 use borrow.Author.Tests.{eqb-true, ne-eqb}
 use Rattle.refusal.specs.Answer.{Answer, Served, Refused, _unless_, _then_}
-use Rattle.measure.specs.Measure.{maxMeasure, isMark, has, measure, marked, valueOf, readOf, signedOf, minusZero, readMarkedOf, written, writtenMarked}
+use Rattle.measure.specs.Measure.{maxMeasure, isMark, hasForm, measure, marked, valueOf, readOf, signedOf, minusZero, readMarkedOf, written, writtenMarked}
 use Rattle.measure.specs.Parts.{withMark}
 use Rattle.measure.proofs.Places.{Measure, five-bytes, digit-read, digit-written, half-read, half-written, measure-is, measure-value, measure-read}
 
@@ -51,16 +51,16 @@ measure-written t m =
 -- what is read as a number is that number, written
 pub written-read : (t : List ℕ) (n : ℕ) → readOf t ≡ Served n → (t ≡ written n) × (n ≤ maxMeasure)
 unfolding readOf
-written-read t n = by-test (has measure t) refl
+written-read t n = by-test (hasForm measure t) refl
   where
-    by-test : (s : Bool) → has measure t ≡ s → (13 unless s then Served (valueOf t)) ≡ Served n → (t ≡ written n) × (n ≤ maxMeasure)
+    by-test : (s : Bool) → hasForm measure t ≡ s → (13 unless s then Served (valueOf t)) ≡ Served n → (t ≡ written n) × (n ≤ maxMeasure)
     by-test true e f = let same : n ≡ valueOf t = cc in rw same (measure-written t (measure-is t e))
     by-test false e f = no-value f
 
 -- a marked text by its mark and the reading of the rest
 pub marked-served : (mark : ℕ) (t : List ℕ) (n : ℕ) → readOf t ≡ Served n → readMarkedOf (mark ∷ t) ≡ withMark mark n
-unfolding readMarkedOf readOf has withMark minusZero
-marked-served mark t n = by-tests (isMark mark) (has measure t)
+unfolding readMarkedOf readOf hasForm withMark minusZero
+marked-served mark t n = by-tests (isMark mark) (hasForm measure t)
   where
     by-tests : (s u : Bool) → (13 unless u then Served (valueOf t)) ≡ Served n → (13 unless (s && u) then 13 unless not (eqb mark 45 && eqb (valueOf t) 0) then Served (signedOf mark (valueOf t))) ≡ (13 unless s then 13 unless not (eqb mark 45 && eqb n 0) then Served (signedOf mark n))
     by-tests true true e = let same : n ≡ valueOf t = cc in rw same
@@ -69,8 +69,8 @@ marked-served mark t n = by-tests (isMark mark) (has measure t)
 
 -- and refused where the rest is
 pub marked-refused : (mark k : ℕ) (t : List ℕ) → readOf t ≡ Refused k → readMarkedOf (mark ∷ t) ≡ Refused 13
-unfolding readMarkedOf readOf has
-marked-refused mark k t = by-tests (isMark mark) (has measure t)
+unfolding readMarkedOf readOf hasForm
+marked-refused mark k t = by-tests (isMark mark) (hasForm measure t)
   where
     by-tests : (s u : Bool) → (13 unless u then Served (valueOf t)) ≡ Refused k → (13 unless (s && u) then 13 unless not (minusZero (mark ∷ t)) then Served (signedOf mark (valueOf t))) ≡ Refused 13
     by-tests s true e = no-value (sym e)
@@ -80,7 +80,7 @@ marked-refused mark k t = by-tests (isMark mark) (has measure t)
 -- a text that is read as no number is refused with 13
 pub served-or-13 : (t : List ℕ) → ((n : ℕ) → readOf t ≡ Served n → ⊥) → readOf t ≡ Refused 13
 unfolding readOf
-served-or-13 t = by-test (has measure t)
+served-or-13 t = by-test (hasForm measure t)
   where
     by-test : (s : Bool) → ((n : ℕ) → (13 unless s then Served (valueOf t)) ≡ Served n → ⊥) → (13 unless s then Served (valueOf t)) ≡ Refused 13
     by-test true none = absurd (none (valueOf t) refl)
@@ -89,7 +89,7 @@ served-or-13 t = by-test (has measure t)
 -- the same with a mark
 pub marked-served-or-13 : (t : List ℕ) → ((z : ℤ) → readMarkedOf t ≡ Served z → ⊥) → readMarkedOf t ≡ Refused 13
 unfolding readMarkedOf
-marked-served-or-13 t = by-tests (has marked t) (minusZero t)
+marked-served-or-13 t = by-tests (hasForm marked t) (minusZero t)
   where
     by-tests : (s u : Bool) → ((z : ℤ) → (13 unless s then 13 unless not u then Served (signedOf (getD t 0 0) (valueOf (drop 1 t)))) ≡ Served z → ⊥) → (13 unless s then 13 unless not u then Served (signedOf (getD t 0 0) (valueOf (drop 1 t)))) ≡ Refused 13
     by-tests true false none = absurd (none (signedOf (getD t 0 0) (valueOf (drop 1 t))) refl)
@@ -118,7 +118,7 @@ with-mark mark n z = by-tests (eqb mark 43) (eqb mark 45) refl refl n
 
 -- what is read as a signed number is that number, written with its mark
 pub written-read-marked : (t : List ℕ) (z : ℤ) → readMarkedOf t ≡ Served z → (t ≡ writtenMarked z) × (natAbs z ≤ maxMeasure)
-unfolding readMarkedOf has
+unfolding readMarkedOf hasForm
 written-read-marked [] z h = no-value h
 written-read-marked (mark ∷ t) z h = by-reading (readOf t) refl
   where
