@@ -1,9 +1,11 @@
 -- Answers in a row: what is served has passed every test, and what is refused stays refused, whatever is answered in the end.
-use Prim.Native.Nat.{ℕ}
+use Prim.Native.Nat.{ℕ, _-_}
 use mathlib.Core.Bool.{Bool, true, false}
 use mathlib.Core.Path.{_≡_, refl, sym}
+use mathlib.Core.List.{List, append-nil}
 use native.Mathlib.Omega.{arith}
-use Rattle.refusal.specs.Answer.{Answer, Served, Refused, _unless_, _then_}
+use lib.ListN.{length, replicate}
+use Rattle.refusal.specs.Answer.{Answer, Served, Refused, _unless_, _then_, leftIn}
 
 -- no answer is both served and refused
 pub not-both : {A : Type 0} {n : ℕ} {x : A} → Refused n ≡ Served x → ⊥
@@ -30,3 +32,25 @@ pub goes-on : {A B : Type 0} (a : Answer A) (n : ℕ) (t : Bool) (rest : Answer 
 goes-on (Served x) n true rest e = refl
 goes-on (Served x) n false rest e = absurd (not-both e)
 goes-on (Refused m) n t rest e = absurd (not-both e)
+
+-- refused at first
+pub first-refused : {A B : Type 0} (a : Answer A) (rest : Answer B) {k : ℕ} → a ≡ Refused k → Refused k ≡ (a then rest)
+first-refused a rest e = rw e
+
+-- served at first, and refused by the test
+pub test-refused : {A B : Type 0} (a : Answer A) (n : ℕ) (t : Bool) (rest : Answer B) {x : A} → a ≡ Served x → t ≡ false → Refused n ≡ (a then n unless t then rest)
+test-refused a n t rest e f = rw (e, f)
+
+-- served at first, and by the test
+pub test-served : {A B : Type 0} (a : Answer A) (n : ℕ) (t : Bool) (rest : Answer B) {x : A} → a ≡ Served x → t ≡ true → (a then n unless t then rest) ≡ rest
+test-served a n t rest e f = rw (e, f)
+
+-- after a refusal a list is left with zeros
+pub left-refused : {A : Type 0} (a : Answer A) (found : List ℕ) (n : ℕ) {k : ℕ} → Refused k ≡ a → replicate n 0 ≡ leftIn a found n
+unfolding leftIn
+left-refused a found n e = rw (← e)
+
+-- a list that has just the room is left with what was found
+pub left-served : {A : Type 0} (a : Answer A) (found : List ℕ) (n : ℕ) {x : A} → Served x ≡ a → n ≡ length found → found ≡ leftIn a found n
+unfolding leftIn
+left-served a found n e l = let none : n - length found ≡ 0 = omega arith in rw (← e, none, append-nil found)
