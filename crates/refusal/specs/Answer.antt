@@ -27,6 +27,16 @@ abbrev pub _into_ : {A B : Type 0} → Answer A → (A → Answer B) → Answer 
 Served x into f = f x
 Refused n into f = Refused n
 
+-- the number of an answer
+abbrev pub numberIn : {A : Type 0} → Answer A → ℕ
+numberIn (Served x) = 0
+numberIn (Refused n) = n
+
+-- what it returns, zero after a refusal
+abbrev pub valueIn : {A : Type 0} → A → Answer A → A
+valueIn zero (Served x) = x
+valueIn zero (Refused n) = zero
+
 -- what is left in a list of n places: what was found and then zeros, and zeros alone after a refusal
 unfoldable pub leftIn : {A : Type 0} → Answer A → List ℕ → ℕ → List ℕ
 leftIn (Served x) found n = found ++ replicate (n - length found) 0
