@@ -1,0 +1,78 @@
+-- One level of the bitmap, cell by cell: a cell more changes the last group, opens the next one, or changes nothing.
+use Prim.Native.Nat.{ℕ, zero, suc, _+_, _*_, _-_, _/_, _%_, _^_, _≤_, _<_}
+use mathlib.Core.Path.{_≡_, refl, sym, ap, _∙_}
+use mathlib.Core.Logic.{_⊎_, inl, inr}
+use mathlib.Core.List.{List, [], _∷_, _++_, map, map-append}
+use native.Mathlib.Omega.{arith}
+use lib.ListN.{length, length-append}
+use lib.Dec.{eqb}
+use borrow.Author.Tests.{eq-eqb, ne-eqb}
+use Rattle.order.specs.Order.{unless-first, distinct, has}
+use Rattle.order.specs.Bag.{same}
+use Rattle.order.proofs.Cases.{test-cases, same-cases, same-self, same?}
+use Rattle.order.proofs.Sets.{In, Rising, has-here, has-there, in-cons, not-in-nil, in-append-left, in-append-right, has-append-left, has-append-right, map-agree, not-in}
+use Rattle.build.specs.Build.{boxesOf, groupOf}
+use Rattle.build.specs.Writing.{worth}
+use Rattle.build.proofs.Groups.{groupOf-same}
+use Rattle.build.proofs.Boxes.{in-boxesOf, boxesOf-in, rising-boxesOf, div-up}
+
+-- one more behind a list that is not empty
+unless-snoc : (a b : ℕ) (l : List ℕ) (x : ℕ) → unless-first a (unless-first b l ++ x ∷ []) ≡ unless-first a (unless-first b l) ++ x ∷ []
+unfolding unless-first
+unless-snoc a b [] x = test-cases (eqb a b) (λ e. rw e) (λ e. rw e)
+unless-snoc a b (y ∷ ys) x =
+    test-cases (eqb b y)
+    (λ e. rw e (test-cases (eqb a y) (λ f. rw f) (λ f. rw f)))
+    (λ e. rw e (test-cases (eqb a b) (λ f. rw f) (λ f. rw f)))
+
+-- a number that is the one before it is not kept
+distinct-same : (l : List ℕ) (b c : ℕ) → b ≡ c → distinct (l ++ b ∷ [] ++ c ∷ []) ≡ distinct (l ++ b ∷ [])
+unfolding distinct unless-first
+distinct-same [] b c e = rw (eq-eqb b c e) (cc)
+distinct-same (a ∷ l) b c e = ap (unless-first a) (distinct-same l b c e)
+
+-- another is
+distinct-new : (l : List ℕ) (b c : ℕ) → (b ≡ c → ⊥) → distinct (l ++ b ∷ [] ++ c ∷ []) ≡ distinct (l ++ b ∷ []) ++ c ∷ []
+unfolding distinct unless-first
+distinct-new [] b c n = rw (ne-eqb b c n)
+distinct-new (a ∷ []) b c n = ap (unless-first a) (distinct-new [] b c n) ∙ unless-snoc a b [] c
+distinct-new (a ∷ x ∷ l) b c n = ap (unless-first a) (distinct-new (x ∷ l) b c n) ∙ unless-snoc a x (distinct (l ++ b ∷ [])) c
+
+-- a cell in the box of the one before it opens no box
+pub boxes-same : (s : ℕ) (l : List ℕ) (b c : ℕ) → b / 4 ^ s ≡ c / 4 ^ s → boxesOf s (l ++ b ∷ [] ++ c ∷ []) ≡ boxesOf s (l ++ b ∷ [])
+unfolding boxesOf
+boxes-same s l b c e = rw (map-append, map-append) (distinct-same (map (λ (c : ℕ). c / 4 ^ s) l) (b / 4 ^ s) (c / 4 ^ s) e)
+
+-- any other opens one
+pub boxes-new : (s : ℕ) (l : List ℕ) (b c : ℕ) → (b / 4 ^ s ≡ c / 4 ^ s → ⊥) → boxesOf s (l ++ b ∷ [] ++ c ∷ []) ≡ boxesOf s (l ++ b ∷ []) ++ c / 4 ^ s ∷ []
+unfolding boxesOf
+boxes-new s l b c n = rw (map-append, map-append) (distinct-new (map (λ (c : ℕ). c / 4 ^ s) l) (b / 4 ^ s) (c / 4 ^ s) n)
+
+-- a number behind a list that does not have it
+has-snoc : (z y : ℕ) (ys : List ℕ) → has y ys ≡ 0 → has z (ys ++ y ∷ []) ≡ has z ys + same z y
+has-snoc z y ys e =
+    same-cases z y
+    (λ p q. rw (q, p) (has-append-right y ys (y ∷ []) e ∙ has-here y [] ∙ omega arith))
+    (λ p q. rw q (has-append-left z ys (y ∷ []) (has-there z y [] p ∙ unfold has in refl) ∙ omega arith))
+
+-- the four places of a quarter's code
+one-place : (x y : ℕ) → y / 4 ≡ x → 8 * same (4 * x) y + 4 * same (4 * x + 1) y + 2 * same (4 * x + 2) y + same (4 * x + 3) y ≡ worth y
+one-place x y e = go (y % 4) (omega arith) (omega arith)
+  where
+    go : (q : ℕ) → q < 4 → y ≡ 4 * x + q → 8 * same (4 * x) y + 4 * same (4 * x + 1) y + 2 * same (4 * x + 2) y + same (4 * x + 3) y ≡ 2 ^ (3 - q)
+    go q k p =
+        same-cases (4 * x) y (λ a e0. same-cases (4 * x + 1) y (λ b e1. absurd (omega arith)) (λ b e1. same-cases (4 * x + 2) y (λ c e2. absurd (omega arith)) (λ c e2. same-cases (4 * x + 3) y (λ d e3. absurd (omega arith)) (λ d e3. let z : q ≡ 0 = omega arith in rw (e0, e1, e2, e3, z)))))
+        (λ a e0. same-cases (4 * x + 1) y (λ b e1. same-cases (4 * x + 2) y (λ c e2. absurd (omega arith)) (λ c e2. same-cases (4 * x + 3) y (λ d e3. absurd (omega arith)) (λ d e3. let z : q ≡ 1 = omega arith in rw (e0, e1, e2, e3, z))))
+        (λ b e1. same-cases (4 * x + 2) y (λ c e2. same-cases (4 * x + 3) y (λ d e3. absurd (omega arith)) (λ d e3. let z : q ≡ 2 = omega arith in rw (e0, e1, e2, e3, z)))
+        (λ c e2. same-cases (4 * x + 3) y (λ d e3. let z : q ≡ 3 = omega arith in rw (e0, e1, e2, e3, z)) (λ d e3. absurd (omega arith)))))
+
+-- a new quarter adds its bit to its box's group
+pub groupOf-more : (ys : List ℕ) (x y : ℕ) → y / 4 ≡ x → has y ys ≡ 0 → groupOf (ys ++ y ∷ []) x ≡ groupOf ys x + worth y
+unfolding groupOf
+groupOf-more ys x y e h =
+    omega (arith, has-snoc (4 * x) y ys h, has-snoc (4 * x + 1) y ys h, has-snoc (4 * x + 2) y ys h, has-snoc (4 * x + 3) y ys h, one-place x y e)
+
+-- and to no other
+pub groupOf-other : (ys : List ℕ) (x y : ℕ) → (x ≡ y / 4 → ⊥) → groupOf (ys ++ y ∷ []) x ≡ groupOf ys x
+groupOf-other ys x y n =
+    groupOf-same (ys ++ y ∷ []) ys x (λ q k. has-append-left (4 * x + q) ys (y ∷ []) (has-there (4 * x + q) y [] (λ e. n (omega arith)) ∙ unfold has in refl))
