@@ -5,7 +5,7 @@ use mathlib.Core.Logic.{_⊎_, inl, inr}
 use mathlib.Core.List.{List, [], _∷_, _++_, map, map-append, append-assoc, append-nil}
 use native.Mathlib.Omega.{arith}
 use native.Mathlib.Numerals.{add-one}
-use lib.ListN.{length, getD, length-append, length-set, length-map}
+use lib.ListN.{length, getD, length-append, length-map}
 use Rattle.order.specs.Order.{unless-first, distinct, has}
 use Rattle.order.proofs.Sets.{In, Rising, has-here, in-cons, not-in-nil, in-append-left, in-append-right, map-agree, not-in}
 use Rattle.build.specs.Build.{boxesOf, groupOf, pack}
@@ -13,7 +13,7 @@ use Rattle.build.specs.Writing.{putGroup, inByte, fit, levelOf, worth, W
 use Rattle.build.proofs.Below.{below-append, below-map, below-one}
 use Rattle.build.proofs.Groups.{groupOf-same, groupOf-small}
 use Rattle.build.proofs.Boxes.{in-boxesOf, boxesOf-in, rising-boxesOf, div-up}
-use Rattle.build.proofs.Fit.{fit-put, put-byte}
+use Rattle.build.proofs.Fit.{fit-put, put-byte, put-length}
 use Rattle.build.proofs.Level.{boxes-same, boxes-new, groupOf-more, groupOf-other}
 
 -- nothing is written yet
@@ -28,7 +28,7 @@ written-put {gs} {g} {bytes} bits w few = record {
   small = below-append 16 gs (bits ∷ []) (w .small) (below-one 16 bits (omega arith) few);
   has =
       ap (λ (b : List ℕ). putGroup b g bits) (w .has) ∙ ap (λ (k : ℕ). putGroup (fit (length bytes) (pack gs)) k bits) (w .next)
-      ∙ sym (fit-put (length bytes) gs bits) ∙ ap (λ (n : ℕ). fit n (pack (gs ++ bits ∷ []))) (sym (unfold putGroup in length-set bytes _ _));
+      ∙ sym (fit-put (length bytes) gs bits) ∙ ap (λ (n : ℕ). fit n (pack (gs ++ bits ∷ []))) (sym (put-length bytes g bits));
 }
 
 -- and its byte stays a byte
@@ -81,6 +81,14 @@ module _ {gs : List ℕ} {s : ℕ} {p : List ℕ} {g child bits : ℕ} {bytes : 
   -- a group is four bits
   pub amid-bits : bits < 16
   amid-bits = rw (m .held) (groupOf-small _ _)
+
+  -- its number is behind the groups that were written, by fewer than the cells seen
+  pub amid-number : (g ≡ length gs + length (m .closed)) × (length (m .closed) < length p)
+  amid-number = (m .put .next ∙ length-append gs _ ∙ ap (λ (k : ℕ). length gs + k) (length-map (m .closed) _), m .few)
+
+  -- putting it leaves a byte
+  pub amid-byte : g / 2 < length bytes → getD bytes (g / 2) 0 + inByte g bits < 256
+  amid-byte room = written-byte bits (m .put) amid-bits room
 
   -- the groups of the closed boxes and of the open one
   amid-put : Written (gs ++ map (groupOf (boxesOf s p)) (boxesOf (suc s) p)) (g + 1) (putGroup bytes g bits)

@@ -3,7 +3,7 @@ use Prim.Native.Nat.{ℕ, zero, suc, _+_, _*_, _-_, _/_, _%_, _^_, _≤_, _<_}
 use mathlib.Core.Path.{_≡_, refl, sym, ap, _∙_}
 use mathlib.Core.List.{List, [], _∷_, _++_}
 use native.Mathlib.Omega.{arith}
-use lib.ListN.{length, getD, set, replicate}
+use lib.ListN.{length, getD, length-set, replicate}
 use lib.Seq.{getD-set-same}
 use Rattle.build.specs.Build.{pack}
 use Rattle.build.specs.Writing.{putGroup, fit}
@@ -32,6 +32,11 @@ unfolding fit
 fit-length zero l = refl
 fit-length (suc n) [] = ap suc (fit-length n [])
 fit-length (suc n) (x ∷ l) = ap suc (fit-length n l)
+
+-- putting a group keeps the length
+pub put-length : (l : List ℕ) (g bits : ℕ) → length (putGroup l g bits) ≡ length l
+unfolding putGroup
+put-length l g bits = length-set l (g / 2) _
 
 -- a group put two places on is put into the next byte
 put-shift : (x : ℕ) (l : List ℕ) (g bits : ℕ) → putGroup (x ∷ l) (suc (suc g)) bits ≡ x ∷ putGroup l g bits
