@@ -1,0 +1,52 @@
+-- The lines of a report as bytes: words, decimal numbers, single spaces, a line feed after each line.
+use Prim.Native.Nat.{ℕ, zero, suc, _+_, _/_, _%_, _≤_}
+use mathlib.Core.Bool.{cond}
+use mathlib.Core.Path.{_≡_}
+use mathlib.Core.List.{List, [], _∷_, _++_, flatMap}
+use lib.Dec.{ltb}
+use lib.ListN.{length}
+use lib.Seq.{sets}
+
+-- the bytes 0, space and line feed
+abbrev pub nought : ℕ
+nought = 0x30
+
+abbrev pub space : ℕ
+space = 0x20
+
+abbrev pub lineFeed : ℕ
+lineFeed = 0x0a
+
+-- n in decimal, if k digits are enough, with no leading zero
+unfoldable pub digits : ℕ → ℕ → List ℕ
+digits zero n = []
+digits (suc k) n = cond (ltb n 10) ((nought + n) ∷ []) (digits k (n / 10) ++ (nought + n % 10) ∷ [])
+
+-- n in decimal; n has fewer than n + 2 digits
+unfoldable pub decimal : ℕ → List ℕ
+decimal n = digits (suc n) n
+
+-- a number after a space
+unfoldable pub field : ℕ → List ℕ
+field n = space ∷ decimal n
+
+-- a line: a word, then numbers
+pub record Line : Type 0 where
+  pub word : List ℕ
+  pub numbers : List ℕ
+
+unfoldable pub bytesOf : Line → List ℕ
+bytesOf line = line .word ++ flatMap field (line .numbers) ++ lineFeed ∷ []
+
+-- lines, one after the other
+unfoldable pub textOf : List Line → List ℕ
+textOf lines = flatMap bytesOf lines
+
+-- a text has room in a list from a place on
+abbrev pub Fits : List ℕ → ℕ → List ℕ → Type 0
+Fits text at out = at + length text ≤ length out
+
+-- a text is put into a list from a place on, all else is as it was, and this is the place behind it
+pub record Put (text : List ℕ) (at : ℕ) (was : List ℕ) (behind : ℕ) (is : List ℕ) : Type 0 where
+  pub place : behind ≡ at + length text
+  pub bytes : is ≡ sets was at text

@@ -1,0 +1,2 @@
+// The report of a joint sheet: its lines, as bytes in a lent buffer.
+pub mod text;
