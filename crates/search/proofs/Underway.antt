@@ -12,7 +12,7 @@ use Rattle.order.proofs.Sorted.{SameBag, total-bag}
 use Rattle.board.specs.Levels.{Box, groups}
 use Rattle.board.specs.Kids.{Entry, whole-board, kids}
 use Rattle.board.proofs.Under.{stands-small}
-use Rattle.board.proofs.Valid.{Served}
+use Rattle.board.proofs.Valid.{Sound}
 use Rattle.board.proofs.Bounds.{served-groups, served-height}
 use Rattle.search.specs.Near.{Place}
 use Rattle.search.specs.Keys.{keyOf}
@@ -68,7 +68,7 @@ module _ (p : Place) (h : ℕ) (bytes : List ℕ) (few : groups h bytes ≤ 2 ^ 
 abbrev pub Entered : Place → ℕ → Type 0
 Entered p x = x ≡ packOf p (entryIn x)
 
-module _ (p : Place) (h : ℕ) (bytes : List ℕ) {j g : ℕ} (served : Served h bytes j g) (k : ℕ) where
+module _ (p : Place) (h : ℕ) (bytes : List ℕ) {j g : ℕ} (served : Sound h bytes j g) (k : ℕ) where
   -- what left so far, and the pending entries as numbers
   pub record Underway (left pend : List ℕ) : Type 0 where
     pub search : Search p h bytes served left (map entryIn pend)
