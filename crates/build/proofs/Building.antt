@@ -4,7 +4,7 @@ use mathlib.Core.Bool.{Bool, true, false, _&&_}
 use mathlib.Core.Path.{_≡_, refl, sym, ap, _∙_}
 use mathlib.Core.List.{List, [], _∷_, _++_, map, append-assoc}
 use native.Mathlib.Omega.{arith}
-use lib.ListN.{length, take, drop, replicate}
+use lib.ListN.{length, take, drop, replicate, length-map}
 use lib.Seq.{take-at, length-take-le}
 use lib.Dec.{leb, eqb}
 use borrow.Author.Tests.{le-leb, lt-leb, leb-true, eqb-true}
@@ -18,6 +18,7 @@ use Rattle.board.specs.Limits.{maxHeight, maxJoints}
 use Rattle.board.specs.Levels.{Box, groups}
 use Rattle.board.specs.Code.{codeOf}
 use Rattle.board.proofs.Codes.{decode, code-decode, code-below}
+use Rattle.build.specs.declared.Built.{Built}
 use Rattle.build.specs.declared.Built.the-variants.{Board, Refused as Turned}
 use Rattle.build.specs.Build.{groupsFrom, pack, onceEach, setOf, bitmapOfCodes, bitmapOf}
 use Rattle.build.specs.Writing.{fit, Written}
@@ -25,6 +26,7 @@ use Rattle.build.specs.Answers.{cellsOf, allOn, givenOf, codesBuiltOf, b
 use Rattle.build.specs.Promise.{builtNumbers, Kept, Promise}
 use Rattle.build.proofs.Pack.{length-pack}
 use Rattle.build.proofs.Fit.{fit-all}
+use Rattle.build.proofs.Coding.{length-cells}
 use Rattle.build.proofs.Bitmaps.{groups-of-bitmap, in-below}
 
 -- numbers below 4 ^ h are the codes of their cells
@@ -165,3 +167,23 @@ given-refused h rows columns work room k e = rw e
 pub given-on : (h : ℕ) (rows columns : List ℕ) (work room : ℕ) → givenOf h rows columns work ≡ Served true → codesBuiltOf h (map (codeOf h) (cellsOf rows columns)) room ≡ builtOf h rows columns work room
 unfolding builtOf
 given-on h rows columns work room e = rw e
+
+-- the work list once it is filled
+module _ (h : ℕ) (rows columns work m : List ℕ) (e : givenOf h rows columns (length work) ≡ Served true) (f : m ≡ map (codeOf h) (cellsOf rows columns) ++ drop (length rows) work) where
+  -- the cells' codes stand in its first places
+  pub filled-first : take (length rows) m ≡ map (codeOf h) (cellsOf rows columns)
+  filled-first =
+      rw f
+      (take-at (map (codeOf h) (cellsOf rows columns)) (drop (length rows) work) (length rows)
+      (length-map (cellsOf rows columns) (codeOf h) ∙ length-cells rows columns (given-good h rows columns (length work) e .even)))
+
+  -- on the board
+  pub filled-small : (z : ℕ) → In z (take (length rows) m) → z < 4 ^ h
+  filled-small z i = codes-small h (cellsOf rows columns) z (rw filled-first at i)
+
+  -- what is built from them is built from the cells
+  pub filled-kept : (room : ℕ) (r : Built) (work′ bitmap′ : List ℕ) → length m ≡ length work
+      → Kept (codesBuiltOf h (take (length rows) m) room) (bitmapOfCodes h (take (length rows) m)) (length m) room r work′ bitmap′
+      → Kept (builtOf h rows columns (length work) room) (bitmapOf h (cellsOf rows columns)) (length work) room r work′ bitmap′
+  unfolding bitmapOf
+  filled-kept room r work′ bitmap′ long k = rw (← given-on h rows columns (length work) room e) (rw (filled-first, long) at k)

@@ -1,4 +1,8 @@
 use borrow.Author.Needs.{needs}
+use mathlib.Core.Path.{sym, ap, _∙_}
+use lib.ListN.{length}
+use Rattle.build.specs.Promise.{givenNumbers}
+use Rattle.build.proofs.Building.{kept-refused, given-refused, given-good, filled-small, filled-kept}
 use Rattle.build.proofs.build.Statement.{statement}
 use Rattle.build.proofs.build.Tie as tie
 use Rattle.build.proofs.build.Reads as reads
@@ -35,18 +39,22 @@ same-length-2 c = search needs
 
 -- src/lib.rt:84:9
 returns : tie.Need-returns
-returns c = ?
+returns c = kept-refused _ _ _ _ _ _ _ (given-refused _ _ _ _ _ _ (sym (c .before .before .before .before .before .before .before .before .before .before .before .check-given .ensures) ∙ ap givenNumbers (c .before .before .before .before .before .before .before .before .before .given .given .1))) (c .before .before .before .before .before .before .clear-words .ensures) (c .before .before .clear-bytes .ensures)
 
 enum-told : tie.Need-enum-told
 enum-told c = search needs
 
 -- src/lib.rt:86:5
 fill-requires : tie.Need-fill-requires
-fill-requires c κs = ?
+fill-requires c κs = let g = given-good _ _ _ _ (sym (c .before .before .before .check-given .ensures) ∙ ap givenNumbers (c .before .enum-told .given .1)) in (g .high, g .even, g .room)
 
 -- src/lib.rt:87:5
 build-codes-requires : tie.Need-build-codes-requires
-build-codes-requires c κs = ?
+build-codes-requires c κs =
+    let a = c .before .before .before .before .before .before .before .before .before .before .before .before .before .args in
+    let e = sym (c .before .before .before .before .before .before .before .before .check-given .ensures) ∙ ap givenNumbers (c .before .before .before .before .before .before .enum-told .given .1) in
+    let g = given-good _ _ _ _ e in
+    (g .low, g .high, rw (c .before .before .before .before .fill .kept .1 .1 .1 .0) (g .room), filled-small _ (a .rows .now) (a .columns .now) (a .work .now) _ e (c .before .before .before .before .fill .ensures))
 
 -- src/lib.rt:77:1
 same-length-3 : tie.Need-same-length-3
@@ -58,7 +66,10 @@ same-length-4 c = search needs
 
 -- src/lib.rt:77:1
 returns-2 : tie.Need-returns-2
-returns-2 c = ?
+returns-2 c =
+    let a = c .before .before .before .before .before .before .before .before .before .before .before .before .before .before .before .before .before .before .args in
+    let e = sym (c .before .before .before .before .before .before .before .before .before .before .before .before .before .check-given .ensures) ∙ ap givenNumbers (c .before .before .before .before .before .before .before .before .before .before .before .enum-told .given .1) in
+    filled-kept _ (a .rows .now) (a .columns .now) (a .work .now) _ e (c .before .before .before .before .before .before .before .before .before .fill .ensures) _ _ _ _ (c .before .before .before .before .before .before .before .before .before .fill .kept .1 .1 .1 .0) (c .before .before .before .before .build-codes .ensures)
 
 pub build-spec : {M : Type 1} → statement M
 build-spec =

@@ -42,7 +42,7 @@ same-length-2 c = search needs
 -- src/lib.rt:60:9
 returns : tie.Need-returns
 unfolding maxHeight maxJoints
-returns c = 
+returns c =
     let p = c .before .before .before .before .before .before .before .before .before .before .before .before .before .before .before .pre in
     let t : Tidy _ _ _ _ _ = record { low = p .0; small = p .3; left = c .before .before .before .before .before .before .before .tidy .ensures } in
     end-many t _ _ _ _ refl (c .before .before .before .before .if1 .taken) (c .before .before .clear-words .ensures ∙ ap (λ (k : ℕ). replicate k 0) (c .before .before .before .before .before .before .before .tidy .kept .0)) (c .before .before .before .before .before .before .before .before .before .before .before .clear-bytes .ensures)
@@ -50,7 +50,7 @@ returns c =
 -- src/lib.rt:62:17
 write-levels-requires : tie.Need-write-levels-requires
 unfolding maxHeight maxJoints
-write-levels-requires c κs = 
+write-levels-requires c κs =
     let p = c .before .before .before .before .before .before .before .before .before .before .before .before .before .pre in
     let t : Tidy _ _ _ _ _ = record { low = p .0; small = p .3; left = c .before .before .before .before .before .tidy .ensures } in
     (p .0, p .1, c .before .before .if1 .left, omega (arith, t .left .few, p .2, c .before .before .before .before .before .tidy .kept .0), tidy-rising t, tidy-small t, c .before .before .before .before .before .before .before .before .before .clear-bytes .ensures ∙ ap (λ (k : ℕ). replicate k 0) (sym (c .before .before .before .before .before .before .before .before .before .clear-bytes .kept .0)))
@@ -87,7 +87,7 @@ same-length-4 c = search needs
 -- src/lib.rt:67:9
 returns-2 : tie.Need-returns-2
 unfolding maxHeight maxJoints
-returns-2 c = 
+returns-2 c =
     let p = c .before .before .before .before .before .before .before .before .before .before .before .before .before .before .before .before .before .before .before .before .before .before .before .before .before .before .pre in
     let t : Tidy _ _ _ _ _ = record { low = p .0; small = p .3; left = c .before .before .before .before .before .before .before .before .before .before .before .before .before .before .before .before .before .before .tidy .ensures } in
     let w = c .before .before .before .before .before .before .before .before .before .before .before .before .write-levels in
@@ -109,7 +109,7 @@ same-length-6 c = search needs
 -- src/lib.rt:52:1
 returns-3 : tie.Need-returns-3
 unfolding maxHeight maxJoints
-returns-3 c = 
+returns-3 c =
     let p = c .before .before .before .before .before .before .before .before .before .before .before .before .before .before .before .before .before .before .before .before .before .before .pre in
     let t : Tidy _ _ _ _ _ = record { low = p .0; small = p .3; left = c .before .before .before .before .before .before .before .before .before .before .before .before .before .before .tidy .ensures } in
     let w = c .before .before .before .before .before .before .before .before .write-levels in
