@@ -7,10 +7,10 @@ use mathlib.Core.Path.{_≡_, refl, sym, ap, _∙_}
 use mathlib.Core.List.{List, [], _∷_}
 use native.Mathlib.Omega.{arith}
 use lib.ListN.{length, getD}
-use lib.Dec.{eqb, ltb}
+use lib.Dec.{eqb}
 use borrow.Author.Tests.{eqb-true, eq-eqb, lt-ltb}
 use Rattle.refusal.specs.Numbers.{numberOf}
-use Rattle.refusal.specs.Answer.{Served, Refused, leftIn}
+use Rattle.refusal.specs.Answer.{Served, leftIn}
 use Rattle.refusal.proofs.Numbers.{one-to-twenty}
 use Rattle.refusal.proofs.Answers.{not-both}
 use Rattle.order.proofs.Cases.{test-cases}

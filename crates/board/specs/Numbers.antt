@@ -1,6 +1,6 @@
 -- The paper's number and values for each case of an answer.
 use Prim.Native.Nat.{ℕ}
-use mathlib.Core.Bool.{Bool, true, false}
+use mathlib.Core.Bool.{Bool, true}
 use mathlib.Core.List.{List, [], _∷_}
 use Rattle.refusal.specs.Numbers.{numberOf}
 use Rattle.refusal.specs.Answer.{Answer, Served, Refused}

@@ -1,6 +1,6 @@
 -- `board::check::check_levels` meets its contract. Outer invariant: the group and the boxes are those of the layout where the level begins; inner: so
 -- many ones in the level's groups so far; both: no fault so far. After the loops the fault is that of the group that broke off, or none. Assumes nothing.
-use Prim.Native.Nat.{_+_, _-_, _≤_}
+use Prim.Native.Nat.{_-_, _≤_}
 use mathlib.Core.Path.{_≡_, refl, sym, ap, _∙_}
 use mathlib.Core.Logic.{⊎-elim}
 use native.Mathlib.Omega.{arith}
@@ -8,7 +8,7 @@ use borrow.Author.Needs.{needs}
 use Rattle.refusal.proofs.Answers.{not-both}
 use Rattle.bitmap.specs.Bits.{groupAt}
 use Rattle.bitmap.proofs.Ones.{ones-small}
-use Rattle.board.specs.declared.check.Fault.the-variants.{Nothing, Found}
+use Rattle.board.specs.declared.check.Fault.the-variants.{Nothing}
 use Rattle.board.specs.Numbers.{foundOf}
 use Rattle.board.proofs.Reading.{AtLevel, AtGroup, one-fault, level-start, group-start, group-step, level-step, level-fault, level-end, level-fits}
 use Rattle.board.proofs.check.check_levels.Statement.{statement}
