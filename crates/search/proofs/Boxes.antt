@@ -61,18 +61,20 @@ module _ (p : Place) (h : ℕ) (bytes : List ℕ) {j g : ℕ} (s : Sound h bytes
       let small = stands-small bytes (h - suc k) (on .at) b (on .stands) in
       let low = served-height h bytes j g s in
       let says = corner-says (suc k) (b .row * 2 ^ suc k) (b .col * 2 ^ suc k) (corner-small h (suc k) (b .row) low (on .low) (small .rows)) (corner-small h (suc k) (b .col) low (on .low) (small .cols)) in
-      let below : gr < groups h bytes = omega (arith, on .numbered (omega arith), on .stands .high, groups-mono bytes (suc (h - suc k)) h (omega (arith, on .low))) in
-      (k, record {
-        left = refl;
-        levels = rw ec (says .0);
-        group = rw ex (box-says p (2 ^ suc k) gr b (omega (arith, served-groups h bytes j g s)) .id);
-        rows = rw ec (says .1);
-        columns = rw ec (says .2);
-        low = omega (arith, on .low, s .low);
-        rows-fit = rw (ec, says .1) (span-fits h (suc k) (b .row) (on .low) (s .low) (small .rows));
-        columns-fit = rw (ec, says .2) (span-fits h (suc k) (b .col) (on .low) (s .low) (small .cols));
-        there = omega (arith, group-in-bytes h bytes gr (s .valid) below);
-      })
+      let below : gr < groups h bytes = omega (arith, on .numbered (omega arith), on .stands .high, groups-mono bytes (suc (h - suc k)) h (omega (arith, on .low))) in (
+        k,
+        record {
+          left = refl;
+          levels = rw ec (says .0);
+          group = rw ex (box-says p (2 ^ suc k) gr b (omega (arith, served-groups h bytes j g s)) .id);
+          rows = rw ec (says .1);
+          columns = rw ec (says .2);
+          low = omega (arith, on .low, s .low);
+          rows-fit = rw (ec, says .1) (span-fits h (suc k) (b .row) (on .low) (s .low) (small .rows));
+          columns-fit = rw (ec, says .2) (span-fits h (suc k) (b .col) (on .low) (s .low) (small .cols));
+          there = omega (arith, group-in-bytes h bytes gr (s .valid) below);
+        },
+      )
 
   joint-at : (k gr : ℕ) (b : Box) (x : ℕ) → OnBoard h bytes (record { left = k; group = gr; box = b }) → x ≡ keyAt p k gr b → kindOf x ≡ 1 → kidsAt bytes k gr b ≡ []
   unfolding keyAt kidsAt

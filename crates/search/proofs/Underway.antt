@@ -113,15 +113,15 @@ module _ (p : Place) (h : ℕ) (bytes : List ℕ) {j g : ℕ} (served : Sound h 
       let told = numbers inside (all-map (λ e c. c .good) (entry-grows p h bytes few mine)) in
       let fewer : (y : ℕ) → count y rest ≤ count y pend = λ y. omega (arith, out y) in
       let is-good : All (OnBoard h bytes) (map entryIn next) =
-          each-all entryIn next (from-both {m = rest} (all-numbers (packOf p) (all-map (λ e t. t .1) told)) (each-fewer good fewer) back) in
+      each-all entryIn next (from-both {m = rest} (all-numbers (packOf p) (all-map (λ e t. t .1) told)) (each-fewer good fewer) back) in
       let made : Step (grown (board p h bytes few)) (map entryIn pend) (entryIn x) (map entryIn next) =
-          opened (grown (board p h bytes few)) (map entryIn rest) mine
-          (rw (← is-key x here) (all-numbers (keyOf p) (each-all entryIn pend (each (λ y c. rw (← is-key y c) (least .of y c))))))
-          (λ w. simp total-map (total-bag (λ y. w (entryIn y)) pend (x ∷ rest) out))
-          (λ w. simp total-map (total-bag (λ y. w (entryIn y)) next (map (packOf p) inside ++ rest) (λ y. back y ∙ sym (count-append y (map (packOf p) inside) rest))
-          ∙ total-append (λ y. w (entryIn y)) (map (packOf p) inside) rest
-          ∙ ap (λ (n : ℕ). n + total (λ y. w (entryIn y)) rest) (total-map (λ y. w (entryIn y)) (packOf p) inside ∙ total-agree (all-map (λ e t. ap w (t .2)) told))))
-          is-good in
+      opened (grown (board p h bytes few)) (map entryIn rest) mine
+      (rw (← is-key x here) (all-numbers (keyOf p) (each-all entryIn pend (each (λ y c. rw (← is-key y c) (least .of y c))))))
+      (λ w. simp total-map (total-bag (λ y. w (entryIn y)) pend (x ∷ rest) out))
+      (λ w. simp total-map (total-bag (λ y. w (entryIn y)) next (map (packOf p) inside ++ rest) (λ y. back y ∙ sym (count-append y (map (packOf p) inside) rest))
+      ∙ total-append (λ y. w (entryIn y)) (map (packOf p) inside) rest
+      ∙ ap (λ (n : ℕ). n + total (λ y. w (entryIn y)) rest) (total-map (λ y. w (entryIn y)) (packOf p) inside ∙ total-agree (all-map (λ e t. ap w (t .2)) told))))
+      is-good in
       record {
         search = rw (is-key x here) (step (u .search) made);
         wanted = wanted-step k left (x / 2 ^ 32) (u .wanted) some;

@@ -82,9 +82,16 @@ loop-again : tie.Need-loop-again Inv-loop μ-loop
 loop-again c = let a = c .before .before .before .before .before .before .before .before .before .before .before .before .before .before .before .before .args in
     let l = c .before .before .before .before .before .before .before .before .before .before .before .before .loop in
     let more = ones-to-suc (a .bits) (l .quarter) in
-    let up = c .before .before .before .before .before .before .before .before .before .before .before .loop-test .taken in
-    (omega arith, l .inv .1, rw (add-one (l .quarter)) (omega arith), rw (add-one (l .quarter)) (omega arith), λ b at. quarters-more (placeOf (a .p)) (a .level) (a .first .0) (a .bits) b (a .pending) (a .keys .now) (a .corners .now) (l .n) (l .quarter) (l .next .0) (l .inv .3) (l .inv .2) (l .inv .4 b at)
-    (rw (c .before .before .before .before .before .before .before .before .before .before .bit-in .ensures) at (c .before .before .before .before .before .add-where-one .ensures .1 (quarter (l .quarter) b) (quarter-corner up (c .before .before .before .before .before .before .before .before .before .before .before .before .before .side .ensures) (c .before .before .before .before .before .before .before .before .before .shifted .ensures) (c .before .before .before .before .before .before .before .before .shifted2 .ensures) b at))), omega arith, omega arith)
+    let up = c .before .before .before .before .before .before .before .before .before .before .before .loop-test .taken in (
+      omega arith,
+      l .inv .1,
+      rw (add-one (l .quarter)) (omega arith),
+      rw (add-one (l .quarter)) (omega arith),
+      λ b at. quarters-more (placeOf (a .p)) (a .level) (a .first .0) (a .bits) b (a .pending) (a .keys .now) (a .corners .now) (l .n) (l .quarter) (l .next .0) (l .inv .3) (l .inv .2) (l .inv .4 b at)
+          (rw (c .before .before .before .before .before .before .before .before .before .before .bit-in .ensures) at (c .before .before .before .before .before .add-where-one .ensures .1 (quarter (l .quarter) b) (quarter-corner up (c .before .before .before .before .before .before .before .before .before .before .before .before .before .side .ensures) (c .before .before .before .before .before .before .before .before .before .shifted .ensures) (c .before .before .before .before .before .before .before .before .shifted2 .ensures) b at))),
+      omega arith,
+      omega arith,
+    )
 
 -- src/open.rt:67:1
 same-length : tie.Need-same-length Inv-loop μ-loop
