@@ -1,0 +1,127 @@
+// Windows: the stored cells inside one, listed box by box. Inside, spans are half-open; the entry turns the closed ends at its door.
+ghost use mathlib.Core.Path.{_≡_};
+ghost use mathlib.Core.List.{map};
+ghost use Prim.Native.Nat.{_+_, _*_, _-_, _/_, _%_, _^_, _<_, _≤_};
+ghost use lib.ListN.{length, set, replicate};
+ghost use Rattle.board.specs.Limits.{maxHeight};
+ghost use Rattle.board.specs.Under.{if-one};
+ghost use Rattle.board.specs.Span.{meetsSpan};
+ghost use Rattle.board.specs.Listing.{Listed, Stood, underSpot};
+use crate::side;
+use bitmap::GroupNo;
+use bitmap::bit_in;
+use bitmap::first_child;
+use bitmap::group_at;
+
+// Rows, or columns, from one up to another that is no longer among them.
+pub struct Span {
+    pub from: u32,
+    pub past: u32,
+}
+
+// The cells of a span of rows and a span of columns.
+pub struct Pane {
+    pub rows: Span,
+    pub columns: Span,
+}
+
+// A box by the levels left under it, its group, and its row and column among the boxes of its level; with no level left it is a cell.
+pub struct Spot {
+    pub left: u32,
+    pub group: GroupNo,
+    pub row: u32,
+    pub column: u32,
+}
+
+// Whether a box has a row, or a column, in a span. With so many levels left under it, it is number `at` in a row of such boxes.
+fn meets(span: Span, left: u32, at: u32) -> bool
+    requires { ⌜ (left ≤ maxHeight) × (at * 2 ^ left + 2 ^ left < 2 ^ 32) ⌝ }
+    ensures { λ r. ⌜ r ≡ meetsSpan span left at ⌝ }
+{
+    let cells = side(left);
+    let first = at * cells;
+    if first + cells <= span.from {
+        return false;
+    }
+    first < span.past
+}
+
+// A quarter of a box, with the group that it has where its bit is one.
+fn quarter_spot(s: Spot, quarter: u32, group: GroupNo) -> Spot
+    requires { ⌜ (1 ≤ s .left) × (s .row < 2 ^ 30) × (s .column < 2 ^ 30) × (quarter < 4) ⌝ }
+    ensures { λ r. ⌜ (r .left ≡ s .left - 1) × (r .group .0 ≡ group .0) × (r .row ≡ 2 * s .row + quarter / 2) × (r .column ≡ 2 * s .column + quarter % 2) ⌝ }
+{
+    Spot {
+        left: s.left - 1,
+        group: group,
+        row: 2 * s.row + quarter / 2,
+        column: 2 * s.column + quarter % 2,
+    }
+}
+
+// Writes a number at a place of a list, where there is room.
+fn put_at(n: u32, number: u32, list: &mut [u32])
+    ensures { λ _. ⌜ now (list .exit) ≡ set (now (list .entry)) n number ⌝ }
+{
+    let at = n as usize;
+    if list.len() <= at {
+        return;
+    }
+    list[at] = number;
+}
+
+// Lists a quarter, where its bit is one: as a cell where no level is left, and else as a box. One beside the pane is not gone into.
+fn list_quarter(
+    bytes: &[u8],
+    directory: &[u16],
+    pane: Pane,
+    s: Spot,
+    one: u32,
+    n: u32,
+    rows: &mut [u32],
+    columns: &mut [u32],
+) -> u32
+    requires { ⌜ ((1 ≤ one) → Stood (now bytes) (now directory) s) × (n + length (if-one one (underSpot (now bytes) s)) < 2 ^ 32) ⌝ }
+    ensures { λ r. ⌜ Listed pane (if-one one (underSpot (now (bytes .entry)) s)) n r (now (rows .entry)) (now (rows .exit)) (now (columns .entry)) (now (columns .exit)) ⌝ }
+{
+    if one == 0 {
+        return n;
+    }
+    if !meets(pane.rows, s.left, s.row) {
+        return n;
+    }
+    if !meets(pane.columns, s.left, s.column) {
+        return n;
+    }
+    if s.left == 0 {
+        put_at(n, s.row, rows);
+        put_at(n, s.column, columns);
+        return n + 1;
+    }
+    list_box(bytes, directory, pane, s, n, rows, columns)
+}
+
+// Lists a box by its quarters in order. One rank gives the group of its first one, and the next ones have the groups after it.
+fn list_box(
+    bytes: &[u8],
+    directory: &[u16],
+    pane: Pane,
+    s: Spot,
+    n: u32,
+    rows: &mut [u32],
+    columns: &mut [u32],
+) -> u32
+    requires { ⌜ Stood (now bytes) (now directory) s × (1 ≤ s .left) × (n + length (underSpot (now bytes) s) < 2 ^ 32) ⌝ }
+    ensures { λ r. ⌜ Listed pane (underSpot (now (bytes .entry)) s) n r (now (rows .entry)) (now (rows .exit)) (now (columns .entry)) (now (columns .exit)) ⌝ }
+{
+    let bits = group_at(bytes, s.group);
+    let mut child = first_child(bytes, directory, s.group);
+    let mut count = n;
+    for quarter in 0..4 {
+        let one = bit_in(bits, quarter);
+        let part = quarter_spot(s, quarter, child);
+        count = list_quarter(bytes, directory, pane, part, one, count, rows, columns);
+        child = child.after(one);
+    }
+    count
+}
