@@ -5,13 +5,25 @@ ghost use Prim.Native.Nat.{_+_, _*_, _-_, _/_, _%_, _^_, _<_, _≤_};
 ghost use lib.ListN.{length, set, replicate};
 ghost use Rattle.board.specs.Limits.{maxHeight};
 ghost use Rattle.board.specs.Under.{if-one};
-ghost use Rattle.board.specs.Span.{meetsSpan};
+ghost use Rattle.order.specs.Order.{keep};
+ghost use Rattle.board.specs.Levels.{joints};
+ghost use Rattle.board.specs.Ready.{Ready};
+ghost use Rattle.board.specs.Window.{endsFit, roomed, Shown};
+ghost use Rattle.board.specs.Span.{within, meetsSpan};
 ghost use Rattle.board.specs.Listing.{Listed, Stood, underSpot};
 use crate::side;
 use bitmap::GroupNo;
 use bitmap::bit_in;
 use bitmap::first_child;
 use bitmap::group_at;
+use lent::clear_words;
+use refusal::Refusal;
+
+// What a window answers: how many cells are inside, or why it is refused.
+pub enum Windowed {
+    Cells(u32),
+    Refused(Refusal),
+}
 
 // Rows, or columns, from one up to another that is no longer among them.
 pub struct Span {
@@ -124,4 +136,45 @@ fn list_box(
         child = child.after(one);
     }
     count
+}
+
+// The cells in a pane of a board that may be asked, into two lists of zeros; without the room for all of them both are zeros again.
+fn list_pane(
+    height: u32,
+    bytes: &[u8],
+    directory: &[u16],
+    pane: Pane,
+    rows: &mut [u32],
+    columns: &mut [u32],
+) -> Windowed
+    requires { ⌜ Ready height (now bytes) (now directory) × (now rows ≡ replicate (length (now rows)) 0) × (now columns ≡ replicate (length (now columns)) 0) ⌝ }
+    ensures { λ r. ⌜ Shown (roomed (length (keep (within pane) (joints height (now (bytes .entry))))) (length (now (rows .entry))) (length (now (columns .entry)))) (keep (within pane) (joints height (now (bytes .entry)))) r (now (rows .entry)) (now (rows .exit)) (now (columns .entry)) (now (columns .exit)) ⌝ }
+{
+    let whole = Spot {
+        left: height,
+        group: GroupNo::root(),
+        row: 0,
+        column: 0,
+    };
+    let count = list_box(bytes, directory, pane, whole, 0, rows, columns);
+    let places = count as usize;
+    if places <= rows.len() {
+        if places <= columns.len() {
+            return Windowed::Cells(count);
+        }
+    }
+    clear_words(rows);
+    clear_words(columns);
+    Windowed::Refused(Refusal::AnswerRoom)
+}
+
+// Whether both ends of a span are on the board, the lowest not above the highest.
+fn ends_fit(height: u32, lowest: u32, highest: u32) -> bool
+    requires { ⌜ height ≤ maxHeight ⌝ }
+    ensures { λ r. ⌜ r ≡ endsFit height lowest highest ⌝ }
+{
+    if highest < lowest {
+        return false;
+    }
+    highest < side(height)
 }
