@@ -5,30 +5,34 @@ use mathlib.Core.Path.{_≡_, refl, sym, ap, _∙_}
 use mathlib.Core.Logic.{_⊎_, ⊎-elim}
 use mathlib.Core.List.{List, [], _∷_, _++_, map}
 use native.Mathlib.Omega.{arith}
-use native.Mathlib.Nat.{zero-add}
+use native.Mathlib.Nat.{zero-add, pow-le-pow-right}
 use lib.ListN.{length, drop, replicate, length-map, length-replicate}
 use lib.Seq.{sets, sets-eq}
 use lib.Dec.{leb, ltb}
-use borrow.Author.Tests.{le-leb, lt-leb, lt-ltb, le-ltb}
+use borrow.Author.Tests.{ltb-true, le-leb, lt-leb, lt-ltb, le-ltb}
 use Rattle.refusal.specs.Answer.{Answer, Served, Refused, leftIn}
 use Rattle.refusal.specs.declared.Refusal.the-variants.{AnswerRoom}
 use Rattle.refusal.proofs.Numbers.{one-to-twenty}
+use Rattle.refusal.proofs.Answers.{stays, goes-on}
 use Rattle.order.specs.Order.{keep}
 use Rattle.order.proofs.Cases.{test-cases, ltb-cases}
 use Rattle.bitmap.specs.declared.GroupNo.{GroupNo}
+use Rattle.bitmap.specs.Directory.{directoryOf, alike}
 use Rattle.board.specs.declared.window.Pane.{Pane}
 use Rattle.board.specs.declared.window.Spot.{Spot}
 use Rattle.board.specs.declared.window.Windowed.{Windowed}
 use Rattle.board.specs.declared.window.Windowed.the-variants.{Cells, Refused as Turned}
-use Rattle.board.specs.Limits.{maxJoints}
+use Rattle.board.specs.Limits.{maxHeight, maxJoints}
 use Rattle.board.specs.Levels.{Box, joints}
-use Rattle.board.specs.Ready.{Ready}
-use Rattle.board.specs.Window.{Window, inside, found, endsFit, roomed, windowNumbers, rowOf, columnOf, Shown}
+use Rattle.board.specs.Check.{checkOf}
+use Rattle.board.specs.Ready.{Ready, askedOf}
+use Rattle.board.specs.Window.{Window, inside, found, endsFit, roomed, windowOf, windowNumbers, rowOf, columnOf, Shown}
 use Rattle.board.specs.Span.{within, raised}
 use Rattle.board.specs.Listing.{Listed, boxOf, underSpot, Stood}
 use Rattle.board.proofs.Rank.{stands-root}
 use Rattle.board.proofs.Under.{joints-under}
-use Rattle.board.proofs.Spans.{inside-raised}
+use Rattle.board.proofs.Spans.{inside-raised, both-hold}
+use Rattle.board.proofs.Standing.{side-small}
 use Rattle.board.proofs.Listing.{listed-lengths}
 
 -- the whole board
@@ -96,6 +100,14 @@ ends-in-order h lowest highest le =
     rw (le-leb lowest highest le)
     (ltb-cases highest (2 ^ h) (λ k e. rw (e, lt-ltb lowest (2 ^ h) (omega arith))) (λ k e. rw e (test-cases (ltb lowest (2 ^ h)) (λ f. rw f) (λ f. rw f))))
 
+-- an end that fits is small
+pub ends-small : (h lowest highest : ℕ) → h ≤ maxHeight → endsFit h lowest highest ≡ true → highest < 2 ^ 30
+unfolding endsFit
+ends-small h lowest highest low e =
+    let on = both-hold (ltb lowest (2 ^ h) && ltb highest (2 ^ h)) (leb lowest highest) e .0 in
+    let less = ltb-true highest (2 ^ h) (both-hold (ltb lowest (2 ^ h)) (ltb highest (2 ^ h)) on .1) in
+    omega (arith, less, pow-le-pow-right {n = 2} (omega arith) {i = h} {j = maxHeight} low, side-small)
+
 -- tests that agree keep the same
 keep-same : {A : Type 0} (p q : A → Bool) → ((a : A) → p a ≡ q a) → (l : List A) → keep p l ≡ keep q l
 unfolding keep
@@ -153,6 +165,36 @@ module _ (p : Pane) (h : ℕ) (bytes d : List ℕ) (s : Spot) (i : IsWhole h s) 
       (⊎-elim (λ v. roomed-columns (length cells) (length rows) (length columns) (omega (arith, v .0, same .0)) (omega (arith, v .1, same .1)))
       (λ v. roomed-rows (length cells) (length rows) (length columns) (omega (arith, v, same .0))) short)
       refl (rw (same .0) at zeros) (rw (same .1) at zeros′)
+
+-- what is refused when the board is asked, is refused so
+pub window-stays : (h : ℕ) (bytes d : List ℕ) (w : Window) (rows columns : ℕ) {k : ℕ} → askedOf h bytes d ≡ Refused k → windowOf h bytes d w rows columns ≡ Refused k
+unfolding askedOf windowOf
+window-stays h bytes d w rows columns e = stays (checkOf h bytes) 6 (alike d (directoryOf bytes)) _ e
+
+module _ (h : ℕ) (bytes d : List ℕ) (w : Window) (rows columns : ℕ) {x : List ℕ} (e : askedOf h bytes d ≡ Served x) where
+  -- ends that do not fit are refused by 12
+  pub window-off : endsFit h (w .top) (w .bottom) && endsFit h (w .left) (w .right) ≡ false → windowOf h bytes d w rows columns ≡ Refused 12
+  unfolding askedOf windowOf
+  window-off f = goes-on (checkOf h bytes) 6 (alike d (directoryOf bytes)) _ e ∙ rw f
+
+  -- with ends that do it is the room that decides
+  pub window-on : endsFit h (w .top) (w .bottom) ≡ true → endsFit h (w .left) (w .right) ≡ true → windowOf h bytes d w rows columns ≡ roomed (length (found w h bytes)) rows columns
+  unfolding askedOf windowOf
+  window-on f g = goes-on (checkOf h bytes) 6 (alike d (directoryOf bytes)) _ e ∙ rw (f, g)
+
+  -- then it is what is shown of its raised spans, into lists that were cleared
+  pub window-shown : (r : Windowed) (was was′ rows₁ rows′ columns₁ columns′ : List ℕ) → length was ≡ rows → length was′ ≡ columns
+      → rows₁ ≡ replicate (length was) 0 → columns₁ ≡ replicate (length was′) 0 → endsFit h (w .top) (w .bottom) ≡ true → endsFit h (w .left) (w .right) ≡ true
+      → Shown (roomed (length (keep (within (raised w)) (joints h bytes))) (length rows₁) (length columns₁)) (keep (within (raised w)) (joints h bytes)) r rows₁ rows′ columns₁ columns′
+      → Shown (windowOf h bytes d w rows columns) (found w h bytes) r was rows′ was′ columns′
+  window-shown r was was′ rows₁ rows′ columns₁ columns′ i i′ zeros zeros′ f g x =
+      let n : length rows₁ ≡ rows = cleared was rows₁ zeros .1 ∙ i in
+      let n′ : length columns₁ ≡ columns = cleared was′ columns₁ zeros′ .1 ∙ i′ in
+      record {
+        returned = rw (window-on f g, found-raised w h bytes) (rw (n, n′) at (x .returned));
+        rows-left = rw (window-on f g, found-raised w h bytes, i) (rw (n, n′) at (x .rows-left));
+        columns-left = rw (window-on f g, found-raised w h bytes, i′) (rw (n, n′) at (x .columns-left));
+      }
 
 -- any two results that are shown alike are equal
 pub shown-unique : (a : Answer ℕ) (cells : List Box) (r t : Windowed) (rows rows′ rows″ columns columns′ columns″ : List ℕ)

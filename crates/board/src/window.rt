@@ -8,9 +8,11 @@ ghost use Rattle.board.specs.Under.{if-one};
 ghost use Rattle.order.specs.Order.{keep};
 ghost use Rattle.board.specs.Levels.{joints};
 ghost use Rattle.board.specs.Ready.{Ready};
-ghost use Rattle.board.specs.Window.{endsFit, roomed, Shown};
+ghost use Rattle.board.specs.Window.{endsFit, ends, found, roomed, windowOf, Shown};
 ghost use Rattle.board.specs.Span.{within, meetsSpan};
 ghost use Rattle.board.specs.Listing.{Listed, Stood, underSpot};
+use crate::ask::ask;
+use crate::check::Checked;
 use crate::side;
 use bitmap::GroupNo;
 use bitmap::bit_in;
@@ -138,6 +140,14 @@ fn list_box(
     count
 }
 
+// Both lists, all zeros.
+fn clear_both(rows: &mut [u32], columns: &mut [u32])
+    ensures { λ _. ⌜ (now (rows .exit) ≡ replicate (length (now (rows .entry))) 0) × (now (columns .exit) ≡ replicate (length (now (columns .entry))) 0) ⌝ }
+{
+    clear_words(rows);
+    clear_words(columns);
+}
+
 // The cells in a pane of a board that may be asked, into two lists of zeros; without the room for all of them both are zeros again.
 fn list_pane(
     height: u32,
@@ -163,8 +173,7 @@ fn list_pane(
             return Windowed::Cells(count);
         }
     }
-    clear_words(rows);
-    clear_words(columns);
+    clear_both(rows, columns);
     Windowed::Refused(Refusal::AnswerRoom)
 }
 
@@ -177,4 +186,42 @@ fn ends_fit(height: u32, lowest: u32, highest: u32) -> bool
         return false;
     }
     highest < side(height)
+}
+
+// The stored cells in a window, of any bytes with any directory: their rows and columns in bitmap order, and zeros after them. The four
+// ends are inside the window, so each highest is raised by one to make a span.
+pub fn window(
+    height: u32,
+    bytes: &[u8],
+    directory: &[u16],
+    lowest_row: u32,
+    highest_row: u32,
+    lowest_column: u32,
+    highest_column: u32,
+    rows: &mut [u32],
+    columns: &mut [u32],
+) -> Windowed
+    ensures { λ r. ⌜ Shown (windowOf height (now (bytes .entry)) (now (directory .entry)) (ends «lowest_row» «highest_row» «lowest_column» «highest_column») (length (now (rows .entry))) (length (now (columns .entry)))) (found (ends «lowest_row» «highest_row» «lowest_column» «highest_column») height (now (bytes .entry))) r (now (rows .entry)) (now (rows .exit)) (now (columns .entry)) (now (columns .exit)) ⌝ }
+{
+    clear_both(rows, columns);
+    if let Checked::Refused(refusal) = ask(height, bytes, directory) {
+        return Windowed::Refused(refusal);
+    }
+    if !ends_fit(height, lowest_row, highest_row) {
+        return Windowed::Refused(Refusal::Cell);
+    }
+    if !ends_fit(height, lowest_column, highest_column) {
+        return Windowed::Refused(Refusal::Cell);
+    }
+    let pane = Pane {
+        rows: Span {
+            from: lowest_row,
+            past: highest_row + 1,
+        },
+        columns: Span {
+            from: lowest_column,
+            past: highest_column + 1,
+        },
+    };
+    list_pane(height, bytes, directory, pane, rows, columns)
 }

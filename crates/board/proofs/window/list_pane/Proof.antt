@@ -11,8 +11,8 @@ root-requires c κs = search needs
 list-box-requires : tie.Need-list-box-requires
 list-box-requires c κs =
     let a = c .before .before .before .before .before .before .before .args in
-    let ready = c .before .before .before .before .before .before .before .pre .0 in
     let whole = whole-is (a .height) (c .before .before .root .result) (c .before .before .root .ensures) in
+    let ready = c .before .before .before .before .before .before .before .pre .0 in
     (whole-stood (a .height) (a .bytes .now) (a .directory .now) _ whole ready, ready .valid .tall, whole-room (a .height) (a .bytes .now) (a .directory .now) _ whole ready)
 
 cast-places : tie.Need-cast-places
@@ -32,11 +32,8 @@ returns c =
     let pre = c .before .before .before .before .before .before .before .before .before .before .before .before .before .before .pre in
     pane-served (a .pane) (a .height) (a .bytes .now) (a .directory .now) _ whole (got .result) (a .rows .now) _ (a .columns .now) _ (got .ensures) (pre .1) (pre .2) (c .before .if1 .taken) (c .if2 .taken)
 
-clear-words-requires : tie.Need-clear-words-requires
-clear-words-requires c κs = search needs
-
-clear-words-requires-2 : tie.Need-clear-words-requires-2
-clear-words-requires-2 c κs = search needs
+clear-both-requires : tie.Need-clear-both-requires
+clear-both-requires c κs = search needs
 
 same-length-3 : tie.Need-same-length-3
 same-length-3 c = search needs
@@ -46,11 +43,11 @@ same-length-4 c = search needs
 
 returns-2 : tie.Need-returns-2
 returns-2 c =
-    let a = c .before .before .before .before .before .before .before .before .before .before .before .before .before .before .before .before .before .before .before .before .before .args in
-    let whole = whole-is (a .height) (c .before .before .before .before .before .before .before .before .before .before .before .before .before .before .before .before .root .result) (c .before .before .before .before .before .before .before .before .before .before .before .before .before .before .before .before .root .ensures) in
-    let got = c .before .before .before .before .before .before .before .before .before .before .before .before .before .list-box in
+    let a = c .before .before .before .before .before .before .before .before .before .before .before .before .before .before .before .before .before .before .before .before .args in
+    let whole = whole-is (a .height) (c .before .before .before .before .before .before .before .before .before .before .before .before .before .before .before .root .result) (c .before .before .before .before .before .before .before .before .before .before .before .before .before .before .before .root .ensures) in
+    let got = c .before .before .before .before .before .before .before .before .before .before .before .before .list-box in
     pane-refused (a .pane) (a .height) (a .bytes .now) (a .directory .now) _ whole (got .result) (a .rows .now) _ (a .columns .now) _ (got .ensures) _ _
-    (c .before .before .before .before .before .before .clear-words .ensures) (c .before .before .clear-words2 .ensures) (⊎-elim (λ v. inl (v .0 .taken, v .1 .left)) (λ v. inr (v .left)) (c .before .before .before .before .before .before .before .before .if1 .came))
+    (c .before .before .before .before .clear-both .ensures .0) (c .before .before .before .before .clear-both .ensures .1) (⊎-elim (λ v. inl (v .0 .taken, v .1 .left)) (λ v. inr (v .left)) (c .before .before .before .before .before .before .before .if1 .came))
 
 pub list-pane-spec : {M : Type 1} → statement M
 list-pane-spec =
@@ -62,8 +59,7 @@ list-pane-spec =
     same-length
     same-length-2
     returns
-    clear-words-requires
-    clear-words-requires-2
+    clear-both-requires
     same-length-3
     same-length-4
     returns-2)
