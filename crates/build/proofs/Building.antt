@@ -18,6 +18,7 @@ use Rattle.board.specs.Limits.{maxHeight, maxJoints}
 use Rattle.board.specs.Levels.{Box, groups}
 use Rattle.board.specs.Code.{codeOf}
 use Rattle.board.proofs.Codes.{decode, code-decode, code-below}
+use Rattle.board.proofs.Valid.{both}
 use Rattle.build.specs.declared.Built.{Built}
 use Rattle.build.specs.declared.Built.the-variants.{Board, Refused as Turned}
 use Rattle.build.specs.Build.{groupsFrom, pack, onceEach, setOf, bitmapOfCodes, bitmapOf}
@@ -30,7 +31,7 @@ use Rattle.build.proofs.Coding.{length-cells}
 use Rattle.build.proofs.Bitmaps.{groups-of-bitmap, in-below}
 
 -- numbers below 4 ^ h are the codes of their cells
-codes-of-cells : (h : ℕ) (codes : List ℕ) → ((z : ℕ) → In z codes → z < 4 ^ h) → map (codeOf h) (map (decode h) codes) ≡ codes
+pub codes-of-cells : (h : ℕ) (codes : List ℕ) → ((z : ℕ) → In z codes → z < 4 ^ h) → map (codeOf h) (map (decode h) codes) ≡ codes
 codes-of-cells h [] small = refl
 codes-of-cells h (x ∷ codes) small =
     let first : codeOf h (decode h x) ≡ x = code-decode h x (small x (has-here x codes)) in
@@ -128,10 +129,6 @@ module _ {h : ℕ} {work : List ℕ} {n : ℕ} {m : List ℕ} {r : ℕ} (t : Tid
 last-passed : (n : ℕ) (t : Bool) {x : Bool} → (n unless t) ≡ Served x → t ≡ true
 last-passed n true e = refl
 last-passed n false {x} e = passed n false (Served x) {x = x} e .0
-
-both : (a b : Bool) → (a && b) ≡ true → (a ≡ true) × (b ≡ true)
-both true b e = (refl, e)
-both false b e = let z : _≡_ {A = ℕ} 0 1 = cc in absurd (omega arith)
 
 -- what is given can be built from
 pub record Good (h : ℕ) (rows columns : List ℕ) (work : ℕ) : Type 0 where

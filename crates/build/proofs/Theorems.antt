@@ -1,0 +1,100 @@
+-- What building is worth: the bitmap is valid, reads back as the cells, is the only one, fits; and the promise leaves one result.
+use Prim.Native.Nat.{ℕ, _^_, _≤_, _<_}
+use mathlib.Core.Path.{_≡_, refl, sym, ap, _∙_}
+use mathlib.Core.List.{List, [], _∷_, map}
+use native.Mathlib.Omega.{arith}
+use lib.ListN.{length, getD}
+use lib.Dec.{eqb}
+use Rattle.refusal.specs.Answer.{Answer, Served, Refused}
+use Rattle.refusal.proofs.Numbers.{one-to-twenty}
+use Rattle.refusal.proofs.Answers.{not-both}
+use Rattle.order.specs.Order.{has}
+use Rattle.order.proofs.Sets.{In, rising-ext, has-set}
+use Rattle.board.specs.Limits.{maxHeight, maxJoints}
+use Rattle.board.specs.Levels.{Box, joints, groups}
+use Rattle.board.specs.Code.{code, codeOf}
+use Rattle.board.specs.Valid.{Valid}
+use Rattle.board.specs.Check.{checkOf}
+use Rattle.board.specs.Member.{stored}
+use Rattle.board.proofs.Codes.{decode, codes}
+use Rattle.board.proofs.Member.{stored-code}
+use Rattle.board.proofs.Valid.{valid-served}
+use Rattle.board.proofs.Bounds.{groups-at-most}
+use Rattle.build.specs.declared.Built.{Built}
+use Rattle.build.specs.declared.Built.the-variants.{Board, Refused as Turned}
+use Rattle.build.specs.Build.{onceEach, setOf, bitmapOfCodes, bitmapOf}
+use Rattle.build.specs.Promise.{builtNumbers, Kept, Promise}
+use Rattle.build.proofs.Bitmaps.{bitmap-of-joints, bitmap-valid, codes-of-bitmap, joints-of-bitmap, length-joints-of-bitmap, rising-setOf}
+use Rattle.build.proofs.Building.{codes-of-cells}
+
+-- the bitmap of any cells is valid
+pub built-valid : (h : ℕ) (cells : List Box) → 1 ≤ h → Valid h (bitmapOf h cells)
+built-valid = bitmap-valid
+
+-- its joints are the cells, once each, in bitmap order
+pub built-joints : (h : ℕ) (cells : List Box) → 1 ≤ h → joints h (bitmapOf h cells) ≡ map (decode h) (setOf h cells)
+built-joints = joints-of-bitmap
+
+-- the set has what the cells have
+has-setOf : (h : ℕ) (cells : List Box) (z : ℕ) → has z (setOf h cells) ≡ has z (map (codeOf h) cells)
+unfolding setOf
+has-setOf h cells z = has-set z (map (codeOf h) cells)
+
+-- a cell is stored in it exactly where it is one of the cells
+pub built-stored : (h : ℕ) (cells : List Box) (r c : ℕ) → 1 ≤ h → r < 2 ^ h → c < 2 ^ h → stored h (bitmapOf h cells) r c ≡ eqb (has (code h r c) (map (codeOf h) cells)) 1
+built-stored h cells r c low on also =
+    stored-code h (bitmapOf h cells) r c on also
+    ∙ ap (λ (n : ℕ). eqb n 1) (ap (has (code h r c)) (codes-of-bitmap h cells low) ∙ has-setOf h cells (code h r c))
+
+-- the check serves it, within the limits
+pub built-checks : (h : ℕ) (cells : List Box) → 1 ≤ h → h ≤ maxHeight → length (setOf h cells) ≤ maxJoints
+    → checkOf h (bitmapOf h cells) ≡ Served (length (setOf h cells) ∷ groups h (bitmapOf h cells) ∷ [])
+built-checks h cells low high few =
+    let many = length-joints-of-bitmap h cells low in
+    rw many at (valid-served h (bitmapOf h cells) (bitmap-valid h cells low) high (omega arith))
+
+-- cells in any order, and any of them more than once, have one bitmap
+pub any-order : (h : ℕ) (a b : List Box) → ((z : ℕ) → has z (map (codeOf h) a) ≡ has z (map (codeOf h) b)) → bitmapOf h a ≡ bitmapOf h b
+unfolding bitmapOf bitmapOfCodes
+any-order h a b same = rw once
+  where
+    once : onceEach (map (codeOf h) a) ≡ onceEach (map (codeOf h) b)
+    once =
+        rising-ext _ _ (unfold setOf in rising-setOf h a) (unfold setOf in rising-setOf h b)
+        (λ z i. has-set z (map (codeOf h) b) ∙ sym (same z) ∙ sym (has-set z (map (codeOf h) a)) ∙ i)
+        (λ z i. has-set z (map (codeOf h) a) ∙ same z ∙ sym (has-set z (map (codeOf h) b)) ∙ i)
+
+-- every valid bitmap is built again from its joints
+pub rebuilt : (h : ℕ) (bytes : List ℕ) → Valid h bytes → ((i : ℕ) → getD bytes i 0 < 256) → bitmapOf h (joints h bytes) ≡ bytes
+rebuilt = bitmap-of-joints
+
+-- two valid bitmaps of one height with the same joints are the same bytes
+pub bitmap-unique : (h : ℕ) (a b : List ℕ) → Valid h a → Valid h b → ((i : ℕ) → getD a i 0 < 256) → ((i : ℕ) → getD b i 0 < 256) → joints h a ≡ joints h b → a ≡ b
+bitmap-unique h a b va vb fa fb e = sym (rebuilt h a va fa) ∙ ap (bitmapOf h) e ∙ rebuilt h b vb fb
+
+-- a board within the limits fits 8,875 bytes
+pub built-fits : (h : ℕ) (cells : List Box) → 1 ≤ h → h ≤ maxHeight → length (setOf h cells) ≤ maxJoints → length (bitmapOf h cells) ≤ 8875
+built-fits h cells low high few = groups-at-most h (bitmapOf h cells) (bitmap-valid h cells low) high (rw (length-joints-of-bitmap h cells low) few) .1
+
+-- codes below 4 ^ h are those of their cells, so all of this holds for what is built from codes
+pub codes-as-cells : (h : ℕ) (codes : List ℕ) → ((z : ℕ) → In z codes → z < 4 ^ h) → bitmapOfCodes h codes ≡ bitmapOf h (map (decode h) codes)
+unfolding bitmapOf
+codes-as-cells h codes small = rw (codes-of-cells h codes small)
+
+-- the same for 8,875 bytes
+pub codes-fit : (h : ℕ) (codes : List ℕ) → 1 ≤ h → h ≤ maxHeight → ((z : ℕ) → In z codes → z < 4 ^ h) → length (onceEach codes) ≤ maxJoints → length (bitmapOfCodes h codes) ≤ 8875
+codes-fit h codes low high small few =
+    rw (codes-as-cells h codes small) (built-fits h (map (decode h) codes) low high (unfold setOf in rw (codes-of-cells h codes small) few))
+
+-- an answer in numbers is one answer
+pub numbers-one : (r s : Built) → builtNumbers r ≡ builtNumbers s → r ≡ s
+numbers-one (Board j g l) (Board j′ g′ l′) e = cc
+numbers-one (Board j g l) (Turned s) e = absurd (not-both (sym e))
+numbers-one (Turned r) (Board j g l) e = absurd (not-both e)
+numbers-one (Turned r) (Turned s) e = ap Turned (one-to-twenty .distinct r s (let n : _ ≡ _ = cc in n))
+
+-- two results that keep build's promise are equal
+pub one-result : (h : ℕ) (rows columns work bitmap : List ℕ) (r s : Built) (w b w′ b′ : List ℕ)
+    → Promise h rows columns work bitmap r w b → Promise h rows columns work bitmap s w′ b′ → (r ≡ s) × (w ≡ w′) × (b ≡ b′)
+one-result h rows columns work bitmap r s w b w′ b′ p q =
+    (numbers-one r s (p .answered ∙ sym (q .answered)), p .work-left ∙ sym (q .work-left), p .bitmap-left ∙ sym (q .bitmap-left))
