@@ -1,16 +1,15 @@
 -- A level that is being written, cell by cell: the invariant of the loop over the cells, how a turn keeps it, and what is written at the end.
-use Prim.Native.Nat.{ℕ, zero, suc, _+_, _*_, _-_, _/_, _%_, _^_, _≤_, _<_}
+use Prim.Native.Nat.{ℕ, suc, _+_, _*_, _/_, _^_, _<_}
 use mathlib.Core.Path.{_≡_, refl, sym, ap, _∙_}
 use mathlib.Core.Logic.{_⊎_, inl, inr}
 use mathlib.Core.List.{List, [], _∷_, _++_, map, map-append, append-assoc, append-nil}
 use native.Mathlib.Omega.{arith}
-use native.Mathlib.Numerals.{add-one}
 use lib.ListN.{length, getD, length-append, length-map}
 use Rattle.order.specs.Order.{unless-first, distinct, has}
-use Rattle.order.proofs.Sets.{In, Rising, has-here, in-cons, not-in-nil, in-append-left, in-append-right, map-agree, not-in}
+use Rattle.order.proofs.Sets.{In, Rising, has-here, in-cons, not-in-nil, in-append-right, map-agree, not-in}
 use Rattle.build.specs.Build.{boxesOf, groupOf, pack}
 use Rattle.build.specs.Writing.{putGroup, inByte, fit, levelOf, worth, Written}
-use Rattle.build.proofs.Below.{below-append, below-map, below-one}
+use Rattle.build.proofs.Below.{below-append, below-one}
 use Rattle.build.proofs.Groups.{groupOf-same, groupOf-small}
 use Rattle.build.proofs.Boxes.{in-boxesOf, boxesOf-in, rising-boxesOf, div-up}
 use Rattle.build.proofs.Fit.{fit-put, put-byte, put-length}

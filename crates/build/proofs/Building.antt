@@ -1,16 +1,16 @@
 -- The ends of a build: what is known there makes the promise.
-use Prim.Native.Nat.{ℕ, zero, suc, _+_, _-_, _/_, _^_, _≤_, _<_}
+use Prim.Native.Nat.{ℕ, _+_, _/_, _^_, _≤_, _<_}
 use mathlib.Core.Bool.{Bool, true, false, _&&_}
 use mathlib.Core.Path.{_≡_, refl, sym, ap, _∙_}
 use mathlib.Core.List.{List, [], _∷_, _++_, map, append-assoc}
 use native.Mathlib.Omega.{arith}
 use lib.ListN.{length, take, drop, replicate, length-map}
-use lib.Seq.{take-at, length-take-le}
+use lib.Seq.{take-at}
 use lib.Dec.{leb, eqb}
 use borrow.Author.Tests.{le-leb, lt-leb, leb-true, eqb-true}
 use Rattle.refusal.specs.declared.Refusal.{Refusal}
 use Rattle.refusal.specs.Numbers.{numberOf}
-use Rattle.refusal.specs.Answer.{Answer, Served, Refused, _unless_, _then_, leftIn}
+use Rattle.refusal.specs.Answer.{Answer, Served, Refused, _unless_, leftIn}
 use Rattle.refusal.proofs.Answers.{passed}
 use Rattle.order.proofs.Sets.{In, Rising, has-here, in-tail, set-rising, has-set}
 use Rattle.order.specs.Once.{Left}
@@ -21,10 +21,10 @@ use Rattle.board.proofs.Codes.{decode, code-decode, code-below}
 use Rattle.board.proofs.Valid.{both}
 use Rattle.build.specs.declared.Built.{Built}
 use Rattle.build.specs.declared.Built.the-variants.{Board, Refused as Turned}
-use Rattle.build.specs.Build.{groupsFrom, pack, onceEach, setOf, bitmapOfCodes, bitmapOf}
+use Rattle.build.specs.Build.{groupsFrom, onceEach, setOf, bitmapOfCodes, bitmapOf}
 use Rattle.build.specs.Writing.{fit, Written}
 use Rattle.build.specs.Answers.{cellsOf, allOn, givenOf, codesBuiltOf, builtOf}
-use Rattle.build.specs.Promise.{builtNumbers, Kept, Promise}
+use Rattle.build.specs.Promise.{Kept}
 use Rattle.build.proofs.Pack.{length-pack}
 use Rattle.build.proofs.Fit.{fit-all}
 use Rattle.build.proofs.Coding.{length-cells}

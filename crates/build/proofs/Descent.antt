@@ -1,14 +1,14 @@
 -- The levels written one after the other: the invariant of the loop over the levels, from the whole board down.
-use Prim.Native.Nat.{ℕ, zero, suc, _+_, _*_, _-_, _/_, _^_, _≤_, _<_}
+use Prim.Native.Nat.{ℕ, zero, suc, _+_, _*_, _-_, _^_, _≤_, _<_}
 use mathlib.Core.Path.{_≡_, refl, sym, ap, _∙_}
 use mathlib.Core.Logic.{_⊎_, inl, inr}
 use mathlib.Core.List.{List, [], _∷_, _++_, map, append-assoc, append-nil}
 use native.Mathlib.Omega.{arith}
 use native.Mathlib.Nat.{div-eq-of-lt}
-use lib.ListN.{length, replicate, length-append}
+use lib.ListN.{length, replicate}
 use Rattle.order.specs.Order.{distinct, has}
 use Rattle.order.proofs.Sets.{In, Rising, has-here, in-cons, not-in-nil, rising-ext}
-use Rattle.board.specs.Limits.{maxHeight, maxJoints}
+use Rattle.board.specs.Limits.{maxJoints}
 use Rattle.build.specs.Build.{boxesOf, groupOf, groupsFrom, pack}
 use Rattle.build.specs.Writing.{fit, levelOf, Written}
 use Rattle.build.proofs.Boxes.{in-boxesOf, boxesOf-in, rising-boxesOf}

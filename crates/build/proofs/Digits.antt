@@ -1,6 +1,6 @@
 -- Powers and digits as the code has them: shifts for powers of four, a shifted 8 for a quarter's bit, halves of a byte for groups.
-use Prim.Native.Nat.{ℕ, zero, suc, _+_, _*_, _-_, _/_, _%_, _^_, _<_}
-use mathlib.Core.Path.{_≡_, refl, _∙_}
+use Prim.Native.Nat.{ℕ, zero, suc, _*_, _-_, _/_, _%_, _^_, _<_}
+use mathlib.Core.Path.{_≡_, refl}
 use native.Mathlib.Omega.{arith}
 use native.Mathlib.Nat.{pow-suc}
 use Rattle.build.specs.Writing.{worth, inByte}

@@ -1,20 +1,17 @@
 -- One level of the bitmap, cell by cell: a cell more changes the last group, opens the next one, or changes nothing.
-use Prim.Native.Nat.{ℕ, zero, suc, _+_, _*_, _-_, _/_, _%_, _^_, _≤_, _<_}
-use mathlib.Core.Path.{_≡_, refl, sym, ap, _∙_}
-use mathlib.Core.Logic.{_⊎_, inl, inr}
+use Prim.Native.Nat.{ℕ, _+_, _*_, _-_, _/_, _%_, _^_, _<_}
+use mathlib.Core.Path.{_≡_, refl, ap, _∙_}
 use mathlib.Core.List.{List, [], _∷_, _++_, map, map-append}
 use native.Mathlib.Omega.{arith}
-use lib.ListN.{length, length-append}
 use lib.Dec.{eqb}
 use borrow.Author.Tests.{eq-eqb, ne-eqb}
 use Rattle.order.specs.Order.{unless-first, distinct, has}
 use Rattle.order.specs.Bag.{same}
-use Rattle.order.proofs.Cases.{test-cases, same-cases, same-self, same?}
-use Rattle.order.proofs.Sets.{In, Rising, has-here, has-there, in-cons, not-in-nil, in-append-left, in-append-right, has-append-left, has-append-right, map-agree, not-in}
+use Rattle.order.proofs.Cases.{test-cases, same-cases}
+use Rattle.order.proofs.Sets.{has-here, has-there, has-append-left, has-append-right}
 use Rattle.build.specs.Build.{boxesOf, groupOf}
 use Rattle.build.specs.Writing.{worth}
 use Rattle.build.proofs.Groups.{groupOf-same}
-use Rattle.build.proofs.Boxes.{in-boxesOf, boxesOf-in, rising-boxesOf, div-up}
 
 -- one more behind a list that is not empty
 unless-snoc : (a b : ℕ) (l : List ℕ) (x : ℕ) → unless-first a (unless-first b l ++ x ∷ []) ≡ unless-first a (unless-first b l) ++ x ∷ []

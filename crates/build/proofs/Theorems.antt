@@ -1,11 +1,11 @@
 -- What building is worth: the bitmap is valid, reads back as the cells, is the only one, fits; and the promise leaves one result.
 use Prim.Native.Nat.{ℕ, _^_, _≤_, _<_}
-use mathlib.Core.Path.{_≡_, refl, sym, ap, _∙_}
+use mathlib.Core.Path.{_≡_, sym, ap, _∙_}
 use mathlib.Core.List.{List, [], _∷_, map}
 use native.Mathlib.Omega.{arith}
 use lib.ListN.{length, getD}
 use lib.Dec.{eqb}
-use Rattle.refusal.specs.Answer.{Answer, Served, Refused}
+use Rattle.refusal.specs.Answer.{Served}
 use Rattle.refusal.proofs.Numbers.{one-to-twenty}
 use Rattle.refusal.proofs.Answers.{not-both}
 use Rattle.order.specs.Order.{has}
@@ -23,7 +23,7 @@ use Rattle.board.proofs.Bounds.{groups-at-most}
 use Rattle.build.specs.declared.Built.{Built}
 use Rattle.build.specs.declared.Built.the-variants.{Board, Refused as Turned}
 use Rattle.build.specs.Build.{onceEach, setOf, bitmapOfCodes, bitmapOf}
-use Rattle.build.specs.Promise.{builtNumbers, Kept, Promise}
+use Rattle.build.specs.Promise.{builtNumbers, Promise}
 use Rattle.build.proofs.Bitmaps.{bitmap-of-joints, bitmap-valid, codes-of-bitmap, joints-of-bitmap, length-joints-of-bitmap, rising-setOf}
 use Rattle.build.proofs.Building.{codes-of-cells}
 

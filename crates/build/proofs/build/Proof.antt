@@ -1,54 +1,37 @@
 use borrow.Author.Needs.{needs}
 use mathlib.Core.Path.{sym, ap, _∙_}
-use lib.ListN.{length}
 use Rattle.build.specs.Promise.{givenNumbers}
 use Rattle.build.proofs.Building.{kept-refused, given-refused, given-good, filled-small, filled-kept}
 use Rattle.build.proofs.build.Statement.{statement}
 use Rattle.build.proofs.build.Tie as tie
-use Rattle.build.proofs.build.Reads as reads
-use Rattle.build.proofs.build.Lts as lts
-use Rattle.build.proofs.build_codes.Reads as build-codes-reads
-use Rattle.build.proofs.cells.fill.Reads as fill-reads
-use Rattle.build.proofs.check_given.Reads as check-given-reads
-use Rattle.lent.proofs.clear_bytes.Reads as clear-bytes-reads
-use Rattle.lent.proofs.clear_words.Reads as clear-words-reads
 
--- src/lib.rt:80:9
 check-given-requires : tie.Need-check-given-requires
 check-given-requires c κs = search needs
 
--- src/lib.rt:81:27
 enum-known-given : tie.Need-enum-known-given
 enum-known-given c = search needs
 
--- src/lib.rt:82:9
 clear-words-requires : tie.Need-clear-words-requires
 clear-words-requires c κs = search needs
 
--- src/lib.rt:83:9
 clear-bytes-requires : tie.Need-clear-bytes-requires
 clear-bytes-requires c κs = search needs
 
--- src/lib.rt:84:9
 same-length : tie.Need-same-length
 same-length c = search needs
 
--- src/lib.rt:84:9
 same-length-2 : tie.Need-same-length-2
 same-length-2 c = search needs
 
--- src/lib.rt:84:9
 returns : tie.Need-returns
 returns c = kept-refused _ _ _ _ _ _ _ (given-refused _ _ _ _ _ _ (sym (c .before .before .before .before .before .before .before .before .before .before .before .check-given .ensures) ∙ ap givenNumbers (c .before .before .before .before .before .before .before .before .before .given .given .1))) (c .before .before .before .before .before .before .clear-words .ensures) (c .before .before .clear-bytes .ensures)
 
 enum-told : tie.Need-enum-told
 enum-told c = search needs
 
--- src/lib.rt:86:5
 fill-requires : tie.Need-fill-requires
 fill-requires c κs = let g = given-good _ _ _ _ (sym (c .before .before .before .check-given .ensures) ∙ ap givenNumbers (c .before .enum-told .given .1)) in (g .high, g .even, g .room)
 
--- src/lib.rt:87:5
 build-codes-requires : tie.Need-build-codes-requires
 build-codes-requires c κs =
     let a = c .before .before .before .before .before .before .before .before .before .before .before .before .before .args in
@@ -56,15 +39,12 @@ build-codes-requires c κs =
     let g = given-good _ _ _ _ e in
     (g .low, g .high, rw (c .before .before .before .before .fill .kept .1 .1 .1 .0) (g .room), filled-small _ (a .rows .now) (a .columns .now) (a .work .now) _ e (c .before .before .before .before .fill .ensures))
 
--- src/lib.rt:77:1
 same-length-3 : tie.Need-same-length-3
 same-length-3 c = search needs
 
--- src/lib.rt:77:1
 same-length-4 : tie.Need-same-length-4
 same-length-4 c = search needs
 
--- src/lib.rt:77:1
 returns-2 : tie.Need-returns-2
 returns-2 c =
     let a = c .before .before .before .before .before .before .before .before .before .before .before .before .before .before .before .before .before .before .args in

@@ -5,9 +5,6 @@ use lib.ListN.{length}
 use Rattle.build.proofs.Coding.{Tested, tested-start, row-off, column-off, tested-step, tested-end}
 use Rattle.build.proofs.cells.all_on.Statement.{statement}
 use Rattle.build.proofs.cells.all_on.Tie as tie
-use Rattle.build.proofs.cells.all_on.Reads as reads
-use Rattle.build.proofs.cells.all_on.Lts as lts
-use Rattle.board.proofs.side.Reads as side-reads
 
 abbrev Inv-loop : tie.InvT-loop
 Inv-loop height rows columns side i₀ i = Tested height rows columns i
@@ -15,51 +12,39 @@ Inv-loop height rows columns side i₀ i = Tested height rows columns i
 abbrev μ-loop : tie.MeasureT-loop
 μ-loop height rows columns side i₀ i = length rows - i
 
--- src/cells.rt:29:9
 side-requires : tie.Need-side-requires Inv-loop μ-loop
 side-requires c κs = search needs
 
--- src/cells.rt:31:5
 loop-holds : tie.Need-loop-holds Inv-loop μ-loop
 loop-holds c = tested-start _ _ _
 
--- src/cells.rt:32:20
 mul-if1 : tie.Need-mul-if1 Inv-loop μ-loop
 mul-if1 c = search needs
 
--- src/cells.rt:32:20
 shared-slice-read-if1 : tie.Need-shared-slice-read-if1 Inv-loop μ-loop
 shared-slice-read-if1 c = search needs
 
--- src/cells.rt:33:13
 returns : tie.Need-returns Inv-loop μ-loop
 returns c = row-off (c .before .before .before .loop .inv) (c .before .before .before .before .before .before .before .pre .1) (c .before .before .loop-test .taken) (rw (c .before .before .before .before .side .ensures) at (c .if1 .taken))
 
--- src/cells.rt:35:20
 mul-if2 : tie.Need-mul-if2 Inv-loop μ-loop
 mul-if2 c = search needs
 
--- src/cells.rt:35:20
 shared-slice-read-if2 : tie.Need-shared-slice-read-if2 Inv-loop μ-loop
 shared-slice-read-if2 c = search needs
 
--- src/cells.rt:36:13
 returns-2 : tie.Need-returns-2 Inv-loop μ-loop
 returns-2 c = column-off (c .before .before .before .before .before .loop .inv) (c .before .before .before .before .before .before .before .before .before .pre .1) (c .before .before .before .before .loop-test .taken) (rw (c .before .before .before .before .before .before .side .ensures) at (c .before .before .if1 .left)) (rw (c .before .before .before .before .before .before .side .ensures) at (c .if2 .taken))
 
--- src/cells.rt:38:9
 add-i : tie.Need-add-i Inv-loop μ-loop
 add-i c = search needs
 
--- src/cells.rt:31:5
 loop-less : tie.Need-loop-less Inv-loop μ-loop
 loop-less c = search needs
 
--- src/cells.rt:31:5
 loop-again : tie.Need-loop-again Inv-loop μ-loop
 loop-again c = tested-step (c .before .before .before .before .before .loop .inv) (c .before .before .before .before .before .before .before .before .before .pre .1) (c .before .before .before .before .loop-test .taken) (rw (c .before .before .before .before .before .before .side .ensures) at (c .before .before .if1 .left)) (rw (c .before .before .before .before .before .before .side .ensures) at (c .if2 .left))
 
--- src/cells.rt:25:1
 returns-3 : tie.Need-returns-3 Inv-loop μ-loop
 returns-3 c = tested-end (c .before .loop .inv) (c .before .before .before .before .before .pre .1) (omega arith)
 

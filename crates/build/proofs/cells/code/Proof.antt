@@ -4,8 +4,6 @@ use Rattle.board.specs.Limits.{maxHeight}
 use Rattle.build.proofs.Coding.{Coding, coding-start, coding-step, coding-end, coding-small}
 use Rattle.build.proofs.cells.code.Statement.{statement}
 use Rattle.build.proofs.cells.code.Tie as tie
-use Rattle.build.proofs.cells.code.Reads as reads
-use Rattle.build.proofs.cells.code.Lts as lts
 
 abbrev Inv-loop : tie.InvT-loop
 Inv-loop height row column found₀ left₀ found left = Coding height row column left found
@@ -13,49 +11,38 @@ Inv-loop height row column found₀ left₀ found left = Coding height row colum
 abbrev μ-loop : tie.MeasureT-loop
 μ-loop height row column found₀ left₀ found left = left
 
--- src/cells.rt:17:5
 loop-holds : tie.Need-loop-holds Inv-loop μ-loop
 loop-holds c = coding-start _ _ _
 
--- src/cells.rt:18:9
 sub-left : tie.Need-sub-left Inv-loop μ-loop
 sub-left c = search needs
 
--- src/cells.rt:19:17
 mul-found : tie.Need-mul-found Inv-loop μ-loop
 mul-found c = let l = c .before .loop in omega (arith, coding-small _ _ _ _ _ (c .before .before .pre) (l .inv))
 
--- src/cells.rt:19:35
 shr-found : tie.Need-shr-found Inv-loop μ-loop
 unfolding maxHeight
 shr-found c = omega (arith, c .before .loop .inv .high)
 
--- src/cells.rt:19:29
 mul-found-2 : tie.Need-mul-found-2 Inv-loop μ-loop
 mul-found-2 c = let l = c .before .loop in omega (arith, coding-small _ _ _ _ _ (c .before .before .pre) (l .inv))
 
--- src/cells.rt:19:17
 add-found : tie.Need-add-found Inv-loop μ-loop
 add-found c = let l = c .before .loop in omega (arith, coding-small _ _ _ _ _ (c .before .before .pre) (l .inv))
 
--- src/cells.rt:19:56
 shr-found-2 : tie.Need-shr-found-2 Inv-loop μ-loop
 unfolding maxHeight
 shr-found-2 c = omega (arith, c .before .loop .inv .high)
 
--- src/cells.rt:19:17
 add-found-2 : tie.Need-add-found-2 Inv-loop μ-loop
 add-found-2 c = let l = c .before .loop in omega (arith, coding-small _ _ _ _ _ (c .before .before .pre) (l .inv))
 
--- src/cells.rt:17:5
 loop-less : tie.Need-loop-less Inv-loop μ-loop
 loop-less c = search needs
 
--- src/cells.rt:17:5
 loop-again : tie.Need-loop-again Inv-loop μ-loop
 loop-again c = coding-step _ _ _ _ _ (c .loop-test .taken) (c .before .loop .inv)
 
--- src/cells.rt:11:1
 returns : tie.Need-returns Inv-loop μ-loop
 returns c = coding-end _ _ _ _ _ (omega arith) (c .before .loop .inv)
 

@@ -5,9 +5,6 @@ use lib.ListN.{length}
 use Rattle.build.proofs.Coding.{Filled, filled-start, filled-step, filled-end}
 use Rattle.build.proofs.cells.fill.Statement.{statement}
 use Rattle.build.proofs.cells.fill.Tie as tie
-use Rattle.build.proofs.cells.fill.Reads as reads
-use Rattle.build.proofs.cells.fill.Lts as lts
-use Rattle.build.proofs.cells.code.Reads as code-reads
 
 abbrev Inv-loop : tie.InvT-loop
 Inv-loop height rows columns work₀ i₀ work i = Filled height rows columns work₀ i work
@@ -15,56 +12,43 @@ Inv-loop height rows columns work₀ i₀ work i = Filled height rows columns wo
 abbrev μ-loop : tie.MeasureT-loop
 μ-loop height rows columns work₀ i₀ work i = length rows - i
 
--- src/cells.rt:49:5
 loop-holds : tie.Need-loop-holds Inv-loop μ-loop
 loop-holds c = filled-start _ _ _ _
 
--- src/cells.rt:50:32
 mul-code : tie.Need-mul-code Inv-loop μ-loop
 mul-code c = search needs
 
--- src/cells.rt:50:32
 shared-slice-read-code : tie.Need-shared-slice-read-code Inv-loop μ-loop
 shared-slice-read-code c = search needs
 
--- src/cells.rt:50:41
 mul-code-2 : tie.Need-mul-code-2 Inv-loop μ-loop
 mul-code-2 c = search needs
 
--- src/cells.rt:50:41
 shared-slice-read-code-2 : tie.Need-shared-slice-read-code-2 Inv-loop μ-loop
 shared-slice-read-code-2 c = search needs
 
--- src/cells.rt:50:19
 code-requires : tie.Need-code-requires Inv-loop μ-loop
 code-requires c κs = search needs
 
--- src/cells.rt:50:9
 mul-work : tie.Need-mul-work Inv-loop μ-loop
 mul-work c = search needs
 
--- src/cells.rt:50:9
 slice-write-work : tie.Need-slice-write-work Inv-loop μ-loop
 slice-write-work c = search needs
 
--- src/cells.rt:51:9
 add-i : tie.Need-add-i Inv-loop μ-loop
 add-i c = search needs
 
--- src/cells.rt:49:5
 loop-less : tie.Need-loop-less Inv-loop μ-loop
 loop-less c = search needs
 
--- src/cells.rt:49:5
 loop-again : tie.Need-loop-again Inv-loop μ-loop
 loop-again c =
     rw (c .code .ensures) (filled-step (c .before .before .before .before .loop .inv) (c .before .before .before .before .before .before .before .before .pre .1) (c .before .before .before .loop-test .taken) (omega arith))
 
--- src/cells.rt:44:1
 same-length : tie.Need-same-length Inv-loop μ-loop
 same-length c = search needs
 
--- src/cells.rt:44:1
 returns : tie.Need-returns Inv-loop μ-loop
 returns c = filled-end (c .before .loop .inv) (c .before .before .before .before .before .pre .1) (omega arith)
 

@@ -3,31 +3,22 @@ use mathlib.Core.Path.{sym}
 use Rattle.build.proofs.Digits.{in-upper, in-lower}
 use Rattle.build.proofs.levels.in_byte.Statement.{statement}
 use Rattle.build.proofs.levels.in_byte.Tie as tie
-use Rattle.build.proofs.levels.in_byte.Reads as reads
-use Rattle.build.proofs.levels.in_byte.Lts as lts
-use Rattle.bitmap.proofs.GroupNo.number.Reads as number-reads
 
--- src/levels.rt:32:8
 number-requires : tie.Need-number-requires
 number-requires c κs = search needs
 
--- src/levels.rt:33:17
 mul-result : tie.Need-mul-result
 mul-result c = search needs
 
--- src/levels.rt:33:16
 cast-result : tie.Need-cast-result
 cast-result c = search needs
 
--- src/levels.rt:33:9
 returns : tie.Need-returns
 returns c = let a = c .before .before .args in sym (in-upper (a .g .0) (a .bits) (rw (c .before .number .ensures) at (c .if1 .taken)))
 
--- src/levels.rt:35:5
 cast-result-2 : tie.Need-cast-result-2
 cast-result-2 c = search needs
 
--- src/levels.rt:28:1
 returns-2 : tie.Need-returns-2
 returns-2 c = let a = c .before .before .args in sym (in-lower (a .g .0) (a .bits) (rw (c .before .number .ensures) at (c .if1 .left)))
 

@@ -6,47 +6,34 @@ use lib.Seq.{set-out}
 use Rattle.build.specs.Writing.{putGroup}
 use Rattle.build.proofs.levels.put.Statement.{statement}
 use Rattle.build.proofs.levels.put.Tie as tie
-use Rattle.build.proofs.levels.put.Reads as reads
-use Rattle.build.proofs.levels.put.Lts as lts
-use Rattle.bitmap.proofs.GroupNo.number.Reads as number-reads
-use Rattle.build.proofs.levels.in_byte.Reads as in-byte-reads
 
--- src/levels.rt:43:15
 number-requires : tie.Need-number-requires
 number-requires c κs = search needs
 
--- src/levels.rt:43:14
 cast-at : tie.Need-cast-at
 cast-at c = search needs
 
--- src/levels.rt:45:23
 in-byte-requires : tie.Need-in-byte-requires
 in-byte-requires c κs = search needs
 
--- src/levels.rt:45:9
 slice-read-bitmap : tie.Need-slice-read-bitmap
 slice-read-bitmap c = search needs
 
--- src/levels.rt:45:9
 add-bitmap : tie.Need-add-bitmap
 add-bitmap c =
     let known = c .before .before .before .before .before .pre .1 (rw (c .before .before .before .number .ensures) at (c .before .before .if1 .taken)) in
     rw (c .before .before .before .number .ensures, c .before .in-byte .ensures) (omega arith)
 
--- src/levels.rt:45:9
 slice-write-bitmap : tie.Need-slice-write-bitmap
 slice-write-bitmap c = search needs
 
--- src/levels.rt:39:1
 same-length : tie.Need-same-length
 same-length c = search needs
 
--- src/levels.rt:39:1
 returns : tie.Need-returns
 unfolding putGroup
 returns c = rw (c .before .before .before .number .ensures, c .before .in-byte .ensures)
 
--- src/levels.rt:39:1
 returns-2 : tie.Need-returns-2
 unfolding putGroup
 returns-2 c = let a = c .before .before .before .args in sym (set-out (a .bitmap .now) (a .g .0 / 2) _ (rw (c .before .number .ensures) at (c .if1 .left)))

@@ -3,14 +3,10 @@ use native.Mathlib.Omega.{arith}
 use Rattle.build.proofs.Digits.{worth-shifted, worth-small}
 use Rattle.build.proofs.levels.worth_of.Statement.{statement}
 use Rattle.build.proofs.levels.worth_of.Tie as tie
-use Rattle.build.proofs.levels.worth_of.Reads as reads
-use Rattle.build.proofs.levels.worth_of.Lts as lts
 
--- src/levels.rt:24:5
 shr-result : tie.Need-shr-result
 shr-result c = search needs
 
--- src/levels.rt:21:1
 returns : tie.Need-returns
 returns c = let q = c .args .quarter in (worth-shifted q, omega (arith, worth-shifted q, worth-small q))
 

@@ -8,11 +8,6 @@ use Rattle.board.specs.Limits.{maxHeight, maxJoints}
 use Rattle.build.proofs.Descent.{Descent, descent-start, descent-step, descent-end, descent-none}
 use Rattle.build.proofs.levels.write_levels.Statement.{statement}
 use Rattle.build.proofs.levels.write_levels.Tie as tie
-use Rattle.build.proofs.levels.write_levels.Reads as reads
-use Rattle.build.proofs.levels.write_levels.Lts as lts
-use Rattle.bitmap.proofs.GroupNo.after.Reads as after-reads
-use Rattle.bitmap.proofs.GroupNo.root.Reads as root-reads
-use Rattle.build.proofs.levels.write_level.Reads as write-level-reads
 
 abbrev Inv-loop : tie.InvT-loop
 Inv-loop height work n bitmap₀ g₀ s₀ bitmap g s = Descent height (take n work) s (g .0) bitmap × (length bitmap ≡ length bitmap₀)
@@ -20,15 +15,12 @@ Inv-loop height work n bitmap₀ g₀ s₀ bitmap g s = Descent height (take n w
 abbrev μ-loop : tie.MeasureT-loop
 μ-loop height work n bitmap₀ g₀ s₀ bitmap g s = s
 
--- src/levels.rt:80:9
 root-requires : tie.Need-root-requires Inv-loop μ-loop
 root-requires c κs = search needs
 
--- src/levels.rt:82:9
 after-requires : tie.Need-after-requires Inv-loop μ-loop
 after-requires c κs = search needs
 
--- src/levels.rt:82:9
 returns : tie.Need-returns Inv-loop μ-loop
 unfolding maxHeight maxJoints
 returns c =
@@ -36,7 +28,6 @@ returns c =
     let one = rw (c .before .before .root .ensures) at (c .after .ensures) in
     (rw (one, c .before .if1 .taken) (descent-none _ _ (p .0) (p .6)), omega (arith, one))
 
--- src/levels.rt:85:5
 loop-holds : tie.Need-loop-holds Inv-loop μ-loop
 loop-holds c =
     let p = c .before .before .before .before .pre in
@@ -44,11 +35,9 @@ loop-holds c =
     let some : 1 ≤ length (take (a .n) (a .work .now)) = rw (length-take-le (a .n) (a .work .now) (p .3)) (omega arith) in
     (rw (c .before .root .ensures) (descent-start _ _ _ some (p .4) (p .5) (p .6)), refl)
 
--- src/levels.rt:86:9
 sub-s : tie.Need-sub-s Inv-loop μ-loop
 sub-s c = search needs
 
--- src/levels.rt:87:9
 write-level-requires : tie.Need-write-level-requires Inv-loop μ-loop
 unfolding maxHeight maxJoints
 write-level-requires c κs =
@@ -56,11 +45,9 @@ write-level-requires c κs =
     let d = c .before .before .loop .inv .0 in
     ((d .done, d .put), omega (arith, d .high), omega arith, p .3, p .4, omega (arith, d .few, d .high))
 
--- src/levels.rt:85:5
 loop-less : tie.Need-loop-less Inv-loop μ-loop
 loop-less c = search needs
 
--- src/levels.rt:85:5
 loop-again : tie.Need-loop-again Inv-loop μ-loop
 loop-again c =
     let p = c .before .before .before .before .before .before .before .before .before .before .pre in
@@ -70,11 +57,9 @@ loop-again c =
     let long = length-take-le (a .n) (a .work .now) (p .3) in
     (descent-step _ _ _ _ _ _ _ (l .inv .0) (c .before .before .before .before .loop-test .taken) (omega arith) (w .ensures .0) (omega (arith, w .ensures .1)), w .kept .1 .1 .1 .1 .0 ∙ l .inv .1)
 
--- src/levels.rt:76:1
 same-length : tie.Need-same-length Inv-loop μ-loop
 same-length c = search needs
 
--- src/levels.rt:76:1
 returns-2 : tie.Need-returns-2 Inv-loop μ-loop
 unfolding maxHeight maxJoints
 returns-2 c =
