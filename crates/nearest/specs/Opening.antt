@@ -7,7 +7,8 @@ use Rattle.bitmap.specs.Directory.{directoryOf}
 use Rattle.bitmap.specs.Bits.{onesOf}
 use Rattle.board.specs.Kids.{Entry}
 use Rattle.search.specs.Near.{Place}
-use Rattle.search.specs.Entries.{packOf}
+use Rattle.search.specs.Entries.{entryOf, packOf}
+use Rattle.search.proofs.Boxes.{BoxIs}
 use Rattle.nearest.specs.Places.{Fits}
 use Rattle.nearest.specs.Pending.{Added}
 
@@ -26,3 +27,9 @@ pub record Room (bits n keys corners : ℕ) : Type 0 where
 pub record Opened (p : Place) (es : List Entry) (n : ℕ) (keys corners : List ℕ) (r : ℕ) (keys′ corners′ : List ℕ) : Type 0 where
   pub counted : r ≡ n + length es
   pub added : Added n (map (packOf p) es) keys corners keys′ corners′
+
+-- the entry of key x and corner c is a box that may be opened: what its corner says is its own
+pub record BoxOpens (bytes directory : List ℕ) (x c : ℕ) : Type 0 where
+  pub level : ℕ
+  pub told : directory ≡ directoryOf bytes
+  pub is : BoxIs bytes x c (entryOf x c) level

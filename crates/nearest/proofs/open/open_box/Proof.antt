@@ -1,9 +1,9 @@
 use Rattle.nearest.proofs.Quarter.{kids-by-bits}
 use borrow.Author.Needs.{needs}
-use Rattle.nearest.proofs.open.open.Statement.{statement}
-use Rattle.nearest.proofs.open.open.Tie as tie
-use Rattle.nearest.proofs.open.open.Reads as reads
-use Rattle.nearest.proofs.open.open.Lts as lts
+use Rattle.nearest.proofs.open.open_box.Statement.{statement}
+use Rattle.nearest.proofs.open.open_box.Tie as tie
+use Rattle.nearest.proofs.open.open_box.Reads as reads
+use Rattle.nearest.proofs.open.open_box.Lts as lts
 use Rattle.bitmap.proofs.first_child.Reads as first-child-reads
 use Rattle.bitmap.proofs.group_at.Reads as group-at-reads
 use Rattle.nearest.proofs.open.add_ones.Reads as add-ones-reads
@@ -33,8 +33,8 @@ returns : tie.Need-returns
 returns c = let a = c .before .before .before .before .before .before .before .before .before .before .before .before .before .args in
     λ b at. rw (kids-by-bits (a .bytes .now) (a .level) (a .g .0) (c .before .before .before .before .before .before .before .before .group-at .result) (c .before .before .before .before .before .before .before .first-child .result .0) b (c .before .before .before .before .before .before .before .before .group-at .ensures .0) (c .before .before .before .before .before .before .before .first-child .ensures .0)) at (c .before .before .before .before .add-ones .ensures b at)
 
-pub open-spec : {M : Type 1} → statement M
-open-spec =
+pub open-box-spec : {M : Type 1} → statement M
+open-box-spec =
     tie.close
     (tie.spec
     group-at-requires

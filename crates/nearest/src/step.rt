@@ -1,0 +1,55 @@
+// A step of a question, and the tally that it keeps.
+ghost use mathlib.Core.Path.{_≡_};
+ghost use Prim.Native.Nat.{_+_, _-_, _*_, _/_, _%_, _^_, _<_, _≤_};
+ghost use lib.ListN.{length, set};
+ghost use Rattle.bitmap.specs.Bits.{groupAt};
+ghost use Rattle.board.specs.Levels.{Box};
+ghost use Rattle.board.specs.Kids.{kids};
+ghost use Rattle.search.specs.Keys.{idOf};
+ghost use Rattle.search.specs.Entries.{entryOf};
+ghost use Rattle.nearest.specs.Places.{placeOf, Named};
+ghost use Rattle.nearest.specs.Opening.{BoxOpens, Room, Opened};
+ghost use Rattle.nearest.specs.Step.{Goes, Stepped};
+use crate::distance::Place;
+use crate::entry;
+use crate::open::open_box;
+use crate::pending;
+use crate::pending::Entry;
+use bitmap::GroupNo;
+
+// Kept through a question and changed as it goes: the boxes opened, the entries pending, the joints handed out.
+pub struct Tally {
+    pub opened: u32,
+    pub pending: u32,
+    pub handed: u32,
+}
+
+// A joint's key is kept at the end of the keys, the first in the last place: what is pending leaves that much room.
+fn hand_out(keys: &mut [u64], handed: usize, key: u64)
+    requires { ⌜ handed < length (now keys) ⌝ }
+    ensures { λ _. ⌜ now (keys .exit) ≡ set (now (keys .entry)) (length (now (keys .entry)) - 1 - handed) key ⌝ }
+{
+    let at = keys.len() - 1 - handed;
+    keys[at] = key;
+}
+
+// A group joins the trail, if the trail has room for it.
+fn join(trail: &mut [u32], opened: usize, g: GroupNo)
+    ensures { λ _. ⌜ now (trail .exit) ≡ set (now (trail .entry)) opened (g .0) ⌝ }
+{
+    if opened < trail.len() {
+        trail[opened] = g.number();
+    }
+}
+
+// The box of an entry that left is opened.
+fn open_entry(p: Place, bytes: &[u8], directory: &[u16], e: Entry, pending: usize, keys: &mut [u64], corners: &mut [u32]) -> usize
+    requires { ⌜ (Named p) × (BoxOpens (now bytes) (now directory) (e .key) (e .corner)) × (Room (groupAt (now bytes) (idOf (e .key))) pending (length (now keys)) (length (now corners))) ⌝ }
+    ensures { λ r. ⌜ Opened (placeOf p) (kids (now (bytes .entry)) (entryOf (e .key) (e .corner))) pending (now (keys .entry)) (now (corners .entry)) r (now (keys .exit)) (now (corners .exit)) ⌝ }
+{
+    let g = entry::group_of(e.key);
+    let level = entry::levels_of(e.corner) - 1;
+    let row = entry::top_of(e.corner);
+    let column = entry::left_of(e.corner);
+    open_box(p, bytes, directory, g, level, row, column, pending, keys, corners)
+}
