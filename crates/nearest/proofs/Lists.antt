@@ -1,5 +1,5 @@
 -- Stores in the two work lists as stores of entries: taking one out, and adding some.
-use Prim.Native.Nat.{ℕ, zero, suc, _+_, _-_, _≤_, _<_}
+use Prim.Native.Nat.{ℕ, zero, suc, _+_, _-_, _^_, _≤_, _<_}
 use mathlib.Core.Path.{_≡_, refl, ap, _∙_}
 use mathlib.Core.List.{List, [], _∷_, _++_}
 use native.Mathlib.Omega.{arith}
@@ -40,14 +40,15 @@ packed-set zero k c (x ∷ ks) (y ∷ cs) = refl
 packed-set (suc i) k c (x ∷ ks) (y ∷ cs) = ap (λ (l : List ℕ). pack x y ∷ l) (packed-set i k c ks cs)
 
 -- of n the least leaves, and the last takes its place
-pub taken : (n i : ℕ) (ks cs : List ℕ) → 0 < n → n ≤ length ks → n ≤ length cs → LeastAt ks n i
+pub taken : (n i : ℕ) (ks cs : List ℕ) → 0 < n → n ≤ length ks → n ≤ length cs → getD cs i 0 < 2 ^ 32 → LeastAt ks n i
     → Taken n ks cs (getD ks i 0) (getD cs i 0) (set ks i (getD ks (n - 1) 0)) (set cs i (getD cs (n - 1) 0))
-taken n i ks cs some h l s =
+taken n i ks cs some h l small s =
     let up : n ≡ suc (n - 1) = omega arith in
     let long = packed-long n ks cs h l in
     let last = packed-at (n - 1) ks cs (omega arith) (omega arith) in
     let one = packed-at i ks cs (omega (arith, s .in-range)) (omega (arith, s .in-range)) in
     record {
+      corner-fits = small;
       smallest = s .least;
       leaves = λ x. simp count-total (rw (packed-set i (getD ks (n - 1) 0) (getD cs (n - 1) 0) ks cs, ← last, ← one) (omega (arith, rw (← up) at (total-remove (same x) (packed ks cs) (n - 1) 0 i (omega arith) (omega (arith, s .in-range))))));
       behind = λ j le. getD-set-other ks i j (getD ks (n - 1) 0) 0 (λ q. omega (arith, s .in-range));

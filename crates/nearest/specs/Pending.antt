@@ -1,5 +1,5 @@
 -- The pending entries stand in the first places of the two work lists. They are spoken of as a bag: how often each stands there, and not where.
-use Prim.Native.Nat.{ℕ, _+_, _-_, _≤_, _<_}
+use Prim.Native.Nat.{ℕ, _+_, _-_, _^_, _≤_, _<_}
 use mathlib.Core.Path.{_≡_}
 use mathlib.Core.List.{List, [], _∷_}
 use lib.ListN.{length, getD, take}
@@ -18,6 +18,7 @@ pendingIn n keys corners = take n (packed keys corners)
 
 -- of n pending entries one with a smallest key leaves, and the others stay; no key behind them changes
 pub record Taken (n : ℕ) (keys corners : List ℕ) (key corner : ℕ) (keys′ corners′ : List ℕ) : Type 0 where
+  pub corner-fits : corner < 2 ^ 32
   pub smallest : (i : ℕ) → i < n → key ≤ getD keys i 0
   pub leaves : (x : ℕ) → count x (pendingIn n keys corners) ≡ same x (pack key corner) + count x (pendingIn (n - 1) keys′ corners′)
   pub behind : (i : ℕ) → n ≤ i → getD keys′ i 0 ≡ getD keys i 0

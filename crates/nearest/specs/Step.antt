@@ -34,6 +34,8 @@ pub record Searching (p : Place) (bytes directory : List ℕ) (t : Tally) (keys 
   pub underway : Underway p height bytes sound wanted left (pendingIn (t .pending) keys corners)
   pub handed-out : jointsIn left ≡ t .handed
   pub counted : length left ≡ t .opened + t .handed
+  pub in-keys : t .pending ≤ length keys
+  pub in-corners : t .pending ≤ length corners
   pub keys-room : max 1 joints ≤ length keys
   pub corners-room : max 1 joints ≤ length corners
 

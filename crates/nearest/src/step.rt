@@ -53,3 +53,29 @@ fn open_entry(p: Place, bytes: &[u8], directory: &[u16], e: Entry, pending: usiz
     let column = entry::left_of(e.corner);
     open_box(p, bytes, directory, g, level, row, column, pending, keys, corners)
 }
+
+// The work of a step, with the tally by value.
+pub fn step_core(t: Tally, p: Place, bytes: &[u8], directory: &[u16], keys: &mut [u64], corners: &mut [u32], trail: &mut [u32]) -> Tally
+    requires { ⌜ (Named p) × (Goes (placeOf p) (now bytes) (now directory) t (now keys) (now corners)) ⌝ }
+    ensures { λ r. ⌜ Stepped (placeOf p) (now (bytes .entry)) t (now (keys .entry)) (now (corners .entry)) (now (trail .entry)) r (now (keys .exit)) (now (corners .exit)) (now (trail .exit)) ⌝ }
+{
+    let opened = t.opened;
+    let pending = t.pending;
+    let handed = t.handed;
+    let e = pending::take(keys, corners, pending as usize);
+    if entry::is_joint(e.key) {
+        hand_out(keys, handed as usize, e.key);
+        return Tally {
+            opened: opened,
+            pending: pending - 1,
+            handed: handed + 1,
+        };
+    }
+    join(trail, opened as usize, entry::group_of(e.key));
+    let now_pending = open_entry(p, bytes, directory, e, (pending - 1) as usize, keys, corners);
+    Tally {
+        opened: opened + 1,
+        pending: now_pending as u32,
+        handed: handed,
+    }
+}

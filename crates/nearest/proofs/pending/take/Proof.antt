@@ -73,7 +73,7 @@ same-length-2 c = search needs
 
 -- src/pending.rt:16:1
 returns : tie.Need-returns
-returns c = taken _ _ _ _ (omega arith) (omega arith) (omega arith) (c .before .before .before .before .least .ensures)
+returns c = taken _ _ _ _ (omega arith) (omega arith) (omega arith) (omega (arith, c .before .before .before .before .before .before .slice-known2 .given (c .before .before .before .before .least .result))) (c .before .before .before .before .least .ensures)
 
 pub take-spec : {M : Type 1} → statement M
 take-spec =
