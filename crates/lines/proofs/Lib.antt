@@ -1,2 +1,3 @@
 pub mod Digits
 pub mod Putting
+pub mod Inside

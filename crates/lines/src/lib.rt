@@ -1,2 +1,3 @@
 // The report of a joint sheet: its lines, as bytes in a lent buffer.
+pub mod line;
 pub mod text;
