@@ -1,3 +1,4 @@
 pub mod Digits
 pub mod Putting
 pub mod Inside
+pub mod Room

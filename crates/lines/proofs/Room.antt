@@ -1,0 +1,42 @@
+-- How long lines are at most, for numbers of 32 bits: ten digits each.
+use Prim.Native.Nat.{ℕ, zero, suc, _+_, _*_, _^_, _≤_, _<_}
+use mathlib.Core.Path.{_≡_, ap}
+use mathlib.Core.List.{List, [], _∷_, _++_, flatMap}
+use native.Mathlib.Omega.{arith}
+use lib.ListN.{length, length-append, getD}
+use Rattle.lines.specs.Text.{Line, field, bytesOf, textOf}
+use Rattle.lines.specs.Lines.{inLine, inLines}
+use Rattle.lines.proofs.Digits.{length-decimal}
+
+-- every number of a list has 32 bits
+abbrev pub Words : List ℕ → Type 0
+Words l = (i : ℕ) → getD l i 0 < 2 ^ 32
+
+-- a number after a space
+pub field-short : (n : ℕ) → n < 2 ^ 32 → length (field n) ≤ 11
+unfolding field
+field-short n h = omega (arith, length-decimal 9 n (omega arith))
+
+-- numbers, each after a space
+pub fields-short : (l : List ℕ) → Words l → length (flatMap field l) ≤ 11 * length l
+unfolding flatMap
+fields-short [] h = omega arith
+fields-short (n ∷ l) h = rw length-append (omega (arith, field-short n (h 0), fields-short l (λ i. h (suc i))))
+
+-- a line
+pub line-short : (line : Line) → Words (line .numbers) → length (bytesOf line) ≤ length (line .word) + 11 * length (line .numbers) + 1
+unfolding bytesOf
+line-short line h = rw (length-append, length-append) (omega (arith, fields-short (line .numbers) h))
+
+-- the joints inside a window
+pub ins-short : (rows columns : List ℕ) → Words rows → Words columns → length (textOf (inLines rows columns)) ≤ 25 * length rows
+unfolding textOf inLines flatMap
+ins-short [] columns h k = omega arith
+ins-short (r ∷ rows) [] h k = omega arith
+ins-short (r ∷ rows) (c ∷ columns) h k =
+    rw length-append (omega (arith, line-short (inLine r c) (two r c (h 0) (k 0)), ins-short rows columns (λ i. h (suc i)) (λ i. k (suc i))))
+  where
+    two : (a b : ℕ) → a < 2 ^ 32 → b < 2 ^ 32 → Words (a ∷ b ∷ [])
+    two a b h k zero = h
+    two a b h k (suc zero) = k
+    two a b h k (suc (suc i)) = omega arith
