@@ -1,0 +1,4 @@
+pub mod Kinds
+pub mod Records
+pub mod Sheet
+pub mod Answers
