@@ -17,7 +17,7 @@ use Rattle.board.specs.Valid.{Valid}
 use Rattle.board.specs.Check.{checkOf}
 use Rattle.board.specs.Member.{stored}
 use Rattle.board.proofs.Codes.{decode, codes}
-use Rattle.board.proofs.Member.{stored-code}
+use Rattle.board.proofs.WayDown.{stored-code}
 use Rattle.board.proofs.Valid.{valid-served}
 use Rattle.board.proofs.Bounds.{groups-at-most}
 use Rattle.build.specs.declared.Built.{Built}
