@@ -15,7 +15,7 @@ use Rattle.board.specs.Member.{among, stored}
 use Rattle.board.specs.Window.{Window, inside, found}
 use Rattle.board.proofs.Codes.{box-path, codes}
 use Rattle.board.proofs.Children.{rising-codes}
-use Rattle.board.proofs.Spans.{both-hold}
+use Rattle.board.proofs.Valid.{both}
 
 -- the cell in row r and column c
 abbrev cell : ℕ → ℕ → Box
@@ -29,8 +29,8 @@ among-kept p r c (b ∷ bs) = go (among-kept p r c bs)
   where
     go : among r c (keep p bs) ≡ p (cell r c) && among r c bs → among r c (keep p (b ∷ bs)) ≡ p (cell r c) && among r c (b ∷ bs)
     go rest = test-cases (eqb r (b .row) && eqb c (b .col))
-        (λ e. let both = both-hold (eqb r (b .row)) (eqb c (b .col)) e in
-        let same : cell r c ≡ b = box-path (cell r c) b (eqb-true r (b .row) (both .0)) (eqb-true c (b .col) (both .1)) in
+        (λ e. let eqs = both (eqb r (b .row)) (eqb c (b .col)) e in
+        let same : cell r c ≡ b = box-path (cell r c) b (eqb-true r (b .row) (eqs .0)) (eqb-true c (b .col) (eqs .1)) in
         test-cases (p b) (λ f. rw (same, f, e)) (λ f. rw (same, f) (rw (same, f) at rest)))
         (λ e. test-cases (p b) (λ f. rw (f, e) rest) (λ f. rw (f, e) rest))
 

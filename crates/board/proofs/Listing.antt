@@ -1,6 +1,6 @@
 -- A window's listing as its two functions go: a quarter of a box, and the box by its quarters.
-use Prim.Native.Nat.{ℕ, zero, suc, _+_, _*_, _-_, _/_, _%_, _^_, _≤_, _<_}
-use mathlib.Core.Bool.{Bool, true, false}
+use Prim.Native.Nat.{ℕ, zero, suc, _+_, _*_, _-_, _/_, _%_, _≤_, _<_}
+use mathlib.Core.Bool.{Bool, true}
 use mathlib.Core.Path.{_≡_, refl, sym, ap, _∙_}
 use mathlib.Core.List.{List, [], _∷_, _++_, map, map-append, append-assoc}
 use native.Mathlib.Omega.{arith}
@@ -100,6 +100,7 @@ IsQuarter s q c t = (t .left ≡ s .left - 1) × (t .group .0 ≡ c) × (t .row 
 abbrev pub IsChild : List ℕ → Spot → ℕ → ℕ → Type 0
 IsChild bytes s q c = c ≡ firstChild bytes (s .group .0) + onesTo (groupAt bytes (s .group .0)) q
 
+-- its box is a quarter of the box
 quarter-box : (s : Spot) (q c : ℕ) (t : Spot) → IsQuarter s q c t → boxOf t ≡ quarter q (boxOf s)
 unfolding quarter
 quarter-box s q c t i = box-path _ _ (i .2) (i .3)

@@ -9,11 +9,11 @@ use native.Mathlib.Nat.{zero-add, pow-le-pow-right}
 use lib.ListN.{length, drop, replicate, length-map, length-replicate}
 use lib.Seq.{sets, sets-eq}
 use lib.Dec.{leb, ltb}
-use borrow.Author.Tests.{ltb-true, le-leb, lt-leb, lt-ltb, le-ltb}
+use borrow.Author.Tests.{ltb-true, le-leb, lt-leb, lt-ltb}
 use Rattle.refusal.specs.Answer.{Answer, Served, Refused, leftIn}
 use Rattle.refusal.specs.declared.Refusal.the-variants.{AnswerRoom}
 use Rattle.refusal.proofs.Numbers.{one-to-twenty}
-use Rattle.refusal.proofs.Answers.{stays, goes-on}
+use Rattle.refusal.proofs.Answers.{not-both, stays, goes-on}
 use Rattle.order.specs.Order.{keep}
 use Rattle.order.proofs.Cases.{test-cases, ltb-cases}
 use Rattle.bitmap.specs.declared.GroupNo.{GroupNo}
@@ -28,10 +28,11 @@ use Rattle.board.specs.Check.{checkOf}
 use Rattle.board.specs.Ready.{Ready, askedOf}
 use Rattle.board.specs.Window.{Window, inside, found, endsFit, roomed, windowOf, windowNumbers, rowOf, columnOf, Shown}
 use Rattle.board.specs.Span.{within, raised}
-use Rattle.board.specs.Listing.{Listed, boxOf, underSpot, Stood}
+use Rattle.board.specs.Listing.{Listed, underSpot, Stood}
 use Rattle.board.proofs.Rank.{stands-root}
 use Rattle.board.proofs.Under.{joints-under}
-use Rattle.board.proofs.Spans.{inside-raised, both-hold}
+use Rattle.board.proofs.Spans.{inside-raised}
+use Rattle.board.proofs.Valid.{both}
 use Rattle.board.proofs.Standing.{side-small}
 use Rattle.board.proofs.Listing.{listed-lengths}
 
@@ -43,6 +44,7 @@ IsWhole h s = (s .left ≡ h) × (s .group .0 ≡ 0) × (s .row ≡ 0) × (s .co
 pub whole-is : (h : ℕ) (g : GroupNo) → g .0 ≡ 0 → IsWhole h (record { left = h; group = g; row = 0; column = 0 })
 whole-is h g e = (refl, e, refl, refl)
 
+-- the rest of a list of zeros
 drop-zeros : (n k : ℕ) → drop {A = ℕ} k (replicate n 0) ≡ replicate (n - k) 0
 drop-zeros n zero = let e : n - 0 ≡ n = omega arith in rw e
 drop-zeros zero (suc k) = let e : 0 - suc k ≡ 0 = omega arith in rw e
@@ -104,8 +106,8 @@ ends-in-order h lowest highest le =
 pub ends-small : (h lowest highest : ℕ) → h ≤ maxHeight → endsFit h lowest highest ≡ true → highest < 2 ^ 30
 unfolding endsFit
 ends-small h lowest highest low e =
-    let on = both-hold (ltb lowest (2 ^ h) && ltb highest (2 ^ h)) (leb lowest highest) e .0 in
-    let less = ltb-true highest (2 ^ h) (both-hold (ltb lowest (2 ^ h)) (ltb highest (2 ^ h)) on .1) in
+    let on = both (ltb lowest (2 ^ h) && ltb highest (2 ^ h)) (leb lowest highest) e .0 in
+    let less = ltb-true highest (2 ^ h) (both (ltb lowest (2 ^ h)) (ltb highest (2 ^ h)) on .1) in
     omega (arith, less, pow-le-pow-right {n = 2} (omega arith) {i = h} {j = maxHeight} low, side-small)
 
 -- tests that agree keep the same
@@ -138,9 +140,11 @@ module _ (h : ℕ) (bytes d : List ℕ) (s : Spot) (i : IsWhole h s) where
 -- the whole board listed into two lists of zeros
 module _ (p : Pane) (h : ℕ) (bytes d : List ℕ) (s : Spot) (i : IsWhole h s) (r : ℕ) (rows rows′ columns columns′ : List ℕ)
     (l : Listed p (underSpot bytes s) 0 r rows rows′ columns columns′) where
+  -- what is in the pane
   abbrev cells : List Box
   cells = keep (within p) (joints h bytes)
 
+  -- the listing of all joints
   whole-listed : Listed p (joints h bytes) 0 r rows rows′ columns columns′
   whole-listed = rw (whole-under h bytes d s i) at l
 
@@ -204,6 +208,6 @@ shown-unique a cells r t rows rows′ rows″ columns columns′ columns″ x y 
   where
     same : (r t : Windowed) → windowNumbers r ≡ windowNumbers t → r ≡ t
     same (Cells n) (Cells m) e = cc
-    same (Cells n) (Turned f) e = absurd (let z : _≡_ {A = ℕ} 0 1 = cc in omega arith)
-    same (Turned f) (Cells n) e = absurd (let z : _≡_ {A = ℕ} 0 1 = cc in omega arith)
+    same (Cells n) (Turned f) e = absurd (not-both (sym e))
+    same (Turned f) (Cells n) e = absurd (not-both e)
     same (Turned f) (Turned g) e = let n = one-to-twenty .distinct f g cc in rw n

@@ -1,8 +1,8 @@
 -- Spans: closed ends as half-open ones, and a box beside a span, which has nothing in it.
 use Prim.Native.Nat.{ℕ, _+_, _*_, _^_, _≤_, _<_}
 use mathlib.Core.Bool.{Bool, true, false, _&&_}
-use mathlib.Core.Path.{_≡_, refl, sym, _∙_}
-use mathlib.Core.List.{List, [], _∷_}
+use mathlib.Core.Path.{_≡_, refl}
+use mathlib.Core.List.{List, []}
 use native.Mathlib.Omega.{arith}
 use native.Mathlib.Nat.{mul-one}
 use lib.Dec.{leb, ltb}
@@ -17,6 +17,7 @@ use Rattle.board.specs.Under.{under}
 use Rattle.board.specs.Window.{Window, inside}
 use Rattle.board.specs.Span.{inSpan, within, meetsSpan, raised}
 use Rattle.board.proofs.Under.{under-within, within-span}
+use Rattle.board.proofs.Valid.{both}
 
 -- at most an end is before the end raised by one
 up-to : (x end : ℕ) → leb x end ≡ ltb x (end + 1)
@@ -32,22 +33,18 @@ pub meets-cell : (s : Span) (x : ℕ) → meetsSpan s 0 x ≡ inSpan s x
 unfolding meetsSpan
 meets-cell s x = rw (mul-one x, ← up-to (s .from) x)
 
--- both tests of two that hold together
-pub both-hold : (a b : Bool) → a && b ≡ true → (a ≡ true) × (b ≡ true)
-both-hold true b e = (refl, e)
-both-hold false b e = absurd (let z : _≡_ {A = ℕ} 0 1 = cc in omega arith)
-
 -- a box that has a cell in a span meets it
 in-meets : (s : Span) (k x z : ℕ) → x * 2 ^ k ≤ z → z < x * 2 ^ k + 2 ^ k → inSpan s z ≡ true → meetsSpan s k x ≡ true
 unfolding meetsSpan
 in-meets s k x z low high e =
-    let b = both-hold (leb (s .from) z) (ltb z (s .past)) e in
+    let b = both (leb (s .from) z) (ltb z (s .past)) e in
     rw (lt-ltb (s .from) (x * 2 ^ k + 2 ^ k) (omega (arith, leb-true (s .from) z (b .0))), lt-ltb (x * 2 ^ k) (s .past) (omega (arith, ltb-true z (s .past) (b .1))))
 
 -- so a cell of a box that does not meet it is not in it
 pub not-in-span : (s : Span) (k x z : ℕ) → x * 2 ^ k ≤ z → z < x * 2 ^ k + 2 ^ k → meetsSpan s k x ≡ false → inSpan s z ≡ false
 not-in-span s k x z low high e = test-cases (inSpan s z) (λ f. absurd (let m = in-meets s k x z low high f in let z : _≡_ {A = ℕ} 0 1 = cc in omega arith)) (λ f. f)
 
+-- a test that none passes keeps nothing
 keep-nothing : {A : Type 0} (p : A → Bool) {l : List A} → All (λ (a : A). p a ≡ false) l → keep p l ≡ []
 unfolding keep
 keep-nothing p all-nil = refl

@@ -1,25 +1,22 @@
 -- A spot of a board that may be asked: its group lies within the bytes, and its cells are on the board.
 use Prim.Native.Nat.{ℕ, zero, suc, _+_, _*_, _-_, _^_, _≤_, _<_}
-use mathlib.Core.Path.{_≡_, refl, sym}
+use mathlib.Core.Path.{_≡_}
 use mathlib.Core.List.{List}
 use native.Mathlib.Omega.{arith}
 use native.Mathlib.Nat.{add-zero, add-suc, mul-one, mul-assoc, pow-suc, suc-mul, mul-le-mul-right, pow-le-pow-right}
 use lib.ListN.{length}
 use Rattle.board.specs.declared.window.Spot.{Spot}
 use Rattle.board.specs.Limits.{maxHeight}
-use Rattle.board.specs.Levels.{root, joints, groups}
-use Rattle.board.specs.Ready.{Ready}
-use Rattle.board.specs.Listing.{boxOf, underSpot, Stood}
-use Rattle.board.proofs.Levels.{groups-mono}
-use Rattle.board.proofs.Bounds.{group-in-bytes}
-use Rattle.board.proofs.Under.{joints-under, stands-small}
+use Rattle.board.specs.Listing.{boxOf, Stood}
+use Rattle.board.proofs.Down.{stands-within}
+use Rattle.board.proofs.Under.{stands-small}
 
 -- a box's group lies within the bytes
 pub group-within : (bytes d : List ℕ) (s : Spot) → Stood bytes d s → 1 ≤ s .left → s .group .0 < 2 * length bytes
 group-within bytes d s t l =
-    let low : s .group .0 < groups (t .height) bytes = omega (arith, t .stands .high, groups-mono bytes (suc (t .height - s .left)) (t .height) (omega (arith, t .tall))) in
-    omega (arith, group-in-bytes (t .height) bytes (s .group .0) (t .ready .valid) low)
+    stands-within (t .height) bytes d (t .height - s .left) (s .group .0) (boxOf s) (t .ready) (t .stands) (omega (arith, t .tall, t .ready .valid .tall)) .0
 
+-- a power of two in two parts
 pow-add : (a b : ℕ) → 2 ^ (a + b) ≡ 2 ^ a * 2 ^ b
 pow-add a zero = rw (add-zero, mul-one)
 pow-add a (suc b) = rw (add-suc, pow-suc, pow-suc, pow-add a b, mul-assoc)

@@ -1,5 +1,5 @@
 -- `board::window::ends_fit` meets its contract: a lowest that is not above a highest on the board is on it too. Assumes nothing.
-use mathlib.Core.Path.{sym, _∙_}
+use mathlib.Core.Path.{sym}
 use borrow.Author.Needs.{needs}
 use Rattle.board.proofs.Showing.{ends-crossed, ends-in-order}
 use Rattle.board.proofs.window.ends_fit.Statement.{statement}
