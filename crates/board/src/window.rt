@@ -1,6 +1,5 @@
 // Windows: the stored cells inside one, listed box by box. Inside, spans are half-open; the entry turns the closed ends at its door.
 ghost use mathlib.Core.Path.{_≡_};
-ghost use mathlib.Core.List.{map};
 ghost use Prim.Native.Nat.{_+_, _*_, _-_, _/_, _%_, _^_, _<_, _≤_};
 ghost use lib.ListN.{length, set, replicate};
 ghost use Rattle.board.specs.Limits.{maxHeight};
