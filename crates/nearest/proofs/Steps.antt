@@ -24,7 +24,7 @@ use Rattle.search.proofs.Board.{served-room, board-entries}
 use Rattle.search.proofs.Boxes.{pending-box, pending-joint, pending-room, length-kids}
 use Rattle.nearest.specs.declared.step.Tally.{Tally}
 use Rattle.nearest.specs.Pending.{packed, pendingIn, Taken}
-use Rattle.nearest.specs.Opening.{BoxOpens, Room, Opened}
+use Rattle.nearest.specs.Opening.{BoxOpens, OnesFit, Opened}
 use Rattle.nearest.specs.Step.{handedIn, Searching, Goes, Stepped}
 use Rattle.nearest.proofs.Lists.{packed-long, packed-at}
 
@@ -100,7 +100,7 @@ module _ (p : Place) (bytes directory : List ℕ) (t : Tally) (ks cs : List ℕ)
       record { level = b .0; told = s .ready .ranked; is = b .1 }
 
   -- the room for its ones
-  pub ones-room : kindOf x ≡ 0 → Room (groupAt bytes (idOf x)) (t .pending - 1) (length ks′) (length cs′)
+  pub ones-room : kindOf x ≡ 0 → OnesFit (groupAt bytes (idOf x)) (t .pending - 1) (length ks′) (length cs′)
   ones-room box =
       let s = go .searching in
       let o = step-box box in

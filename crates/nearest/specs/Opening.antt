@@ -19,7 +19,7 @@ pub record Opens (bytes directory : List ℕ) (g level row column : ℕ) : Type 
   pub fits : Fits (suc level) row column
 
 -- both work lists have room for as many entries as there are ones, beside n
-pub record Room (bits n keys corners : ℕ) : Type 0 where
+pub record OnesFit (bits n keys corners : ℕ) : Type 0 where
   pub keys-room : n + onesOf bits ≤ keys
   pub corners-room : n + onesOf bits ≤ corners
 

@@ -10,7 +10,7 @@ ghost use Rattle.board.specs.Kids.{entry, kidsAt};
 ghost use Rattle.search.specs.Entries.{packOf};
 ghost use Rattle.nearest.specs.Places.{placeOf, Named, Fits, Corner, Packs};
 ghost use Rattle.nearest.specs.Pending.{Added};
-ghost use Rattle.nearest.specs.Opening.{Opens, Room, Opened};
+ghost use Rattle.nearest.specs.Opening.{Opens, OnesFit, Opened};
 use crate::distance;
 use crate::distance::Place;
 use crate::entry;
@@ -65,7 +65,7 @@ fn shifted(first: u32, half: u32, second: u32) -> u32
 
 // The quarters of a box whose bits are one become pending, each with so many levels; their groups follow one another.
 fn add_ones(p: Place, bits: u32, first: GroupNo, level: u32, row: u32, column: u32, pending: usize, keys: &mut [u64], corners: &mut [u32]) -> usize
-    requires { ⌜ (Named p) × (Fits (suc level) row column) × (first .0 ≤ 2 ^ 17) × (Room bits pending (length (now keys)) (length (now corners))) ⌝ }
+    requires { ⌜ (Named p) × (Fits (suc level) row column) × (first .0 ≤ 2 ^ 17) × (OnesFit bits pending (length (now keys)) (length (now corners))) ⌝ }
     ensures { λ r. ⌜ ((b : Box) → Corner (suc level) row column b → Opened (placeOf p) (along (entry level) (first .0) (quarters bits b)) pending (now (keys .entry)) (now (corners .entry)) r (now (keys .exit)) (now (corners .exit))) ⌝ }
 {
     let half = board::side(level);
@@ -85,7 +85,7 @@ fn add_ones(p: Place, bits: u32, first: GroupNo, level: u32, row: u32, column: u
 
 // A box is opened, whose quarters have so many levels: its ones become pending.
 pub fn open_box(p: Place, bytes: &[u8], directory: &[u16], g: GroupNo, level: u32, row: u32, column: u32, pending: usize, keys: &mut [u64], corners: &mut [u32]) -> usize
-    requires { ⌜ (Named p) × (Opens (now bytes) (now directory) (g .0) level row column) × (Room (groupAt (now bytes) (g .0)) pending (length (now keys)) (length (now corners))) ⌝ }
+    requires { ⌜ (Named p) × (Opens (now bytes) (now directory) (g .0) level row column) × (OnesFit (groupAt (now bytes) (g .0)) pending (length (now keys)) (length (now corners))) ⌝ }
     ensures { λ r. ⌜ ((b : Box) → Corner (suc level) row column b → Opened (placeOf p) (kidsAt (now (bytes .entry)) (suc level) (g .0) b) pending (now (keys .entry)) (now (corners .entry)) r (now (keys .exit)) (now (corners .exit))) ⌝ }
 {
     let bits = bitmap::group_at(bytes, g);

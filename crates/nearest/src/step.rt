@@ -8,7 +8,7 @@ ghost use Rattle.board.specs.Kids.{kids};
 ghost use Rattle.search.specs.Keys.{idOf};
 ghost use Rattle.search.specs.Entries.{entryOf};
 ghost use Rattle.nearest.specs.Places.{placeOf, Named};
-ghost use Rattle.nearest.specs.Opening.{BoxOpens, Room, Opened};
+ghost use Rattle.nearest.specs.Opening.{BoxOpens, OnesFit, Opened};
 ghost use Rattle.nearest.specs.Step.{Goes, Stepped};
 use crate::distance::Place;
 use crate::entry;
@@ -44,7 +44,7 @@ fn join(trail: &mut [u32], opened: usize, g: GroupNo)
 
 // The box of an entry that left is opened.
 fn open_entry(p: Place, bytes: &[u8], directory: &[u16], e: Entry, pending: usize, keys: &mut [u64], corners: &mut [u32]) -> usize
-    requires { ⌜ (Named p) × (BoxOpens (now bytes) (now directory) (e .key) (e .corner)) × (Room (groupAt (now bytes) (idOf (e .key))) pending (length (now keys)) (length (now corners))) ⌝ }
+    requires { ⌜ (Named p) × (BoxOpens (now bytes) (now directory) (e .key) (e .corner)) × (OnesFit (groupAt (now bytes) (idOf (e .key))) pending (length (now keys)) (length (now corners))) ⌝ }
     ensures { λ r. ⌜ Opened (placeOf p) (kids (now (bytes .entry)) (entryOf (e .key) (e .corner))) pending (now (keys .entry)) (now (corners .entry)) r (now (keys .exit)) (now (corners .exit)) ⌝ }
 {
     let g = entry::group_of(e.key);
@@ -78,4 +78,22 @@ pub fn step_core(t: Tally, p: Place, bytes: &[u8], directory: &[u16], keys: &mut
         pending: now_pending as u32,
         handed: handed,
     }
+}
+
+// The step: the tally is lent, and changed.
+pub fn step(t: &mut Tally, p: Place, bytes: &[u8], directory: &[u16], keys: &mut [u64], corners: &mut [u32], trail: &mut [u32])
+    requires { ⌜ (Named p) × (Goes (placeOf p) (now bytes) (now directory) (now t) (now keys) (now corners)) ⌝ }
+    ensures { λ _. ⌜ Stepped (placeOf p) (now (bytes .entry)) (now (t .entry)) (now (keys .entry)) (now (corners .entry)) (now (trail .entry)) (now (t .exit)) (now (keys .exit)) (now (corners .exit)) (now (trail .exit)) ⌝ }
+{
+    *t = step_core(*t, p, bytes, directory, keys, corners, trail);
+}
+
+// One turn of the search: a tally of its own is lent to the step.
+pub fn turn(t: Tally, p: Place, bytes: &[u8], directory: &[u16], keys: &mut [u64], corners: &mut [u32], trail: &mut [u32]) -> Tally
+    requires { ⌜ (Named p) × (Goes (placeOf p) (now bytes) (now directory) t (now keys) (now corners)) ⌝ }
+    ensures { λ r. ⌜ Stepped (placeOf p) (now (bytes .entry)) t (now (keys .entry)) (now (corners .entry)) (now (trail .entry)) r (now (keys .exit)) (now (corners .exit)) (now (trail .exit)) ⌝ }
+{
+    let mut m = t;
+    step(&mut m, p, bytes, directory, keys, corners, trail);
+    m
 }
