@@ -32,6 +32,13 @@ use Rattle.nearest.proofs.Lists.{packed-long, packed-at}
 pub pending-long : (n : ℕ) (ks cs : List ℕ) → n ≤ length ks → n ≤ length cs → length (pendingIn n ks cs) ≡ n
 pending-long n ks cs h l = length-take-le n (packed ks cs) (packed-long n ks cs h l)
 
+-- a key that is at most each of theirs is at most each of the entries' keys
+pub least-key : (n : ℕ) (ks cs : List ℕ) (x : ℕ) → n ≤ length ks → n ≤ length cs → ((i : ℕ) → i < n → x ≤ getD ks i 0) → Each (λ y. x ≤ y / 2 ^ 32) (pendingIn n ks cs)
+least-key n ks cs x h l smallest =
+    each-index (pendingIn n ks cs) 0 (λ i lt.
+    let up : i < n = rw (pending-long n ks cs h l) at lt in
+    rw (getD-take n (packed ks cs) i 0 up, packed-at i ks cs (omega arith) (omega arith)) (omega (arith, smallest i up)))
+
 -- a key that is stored behind the pending entries changes none of them
 pub pending-behind : (n i k : ℕ) (ks cs : List ℕ) → n ≤ i → pendingIn n (set ks i k) cs ≡ pendingIn n ks cs
 unfolding packed
@@ -69,13 +76,8 @@ module _ (p : Place) (bytes directory : List ℕ) (t : Tally) (ks cs : List ℕ)
   pub was-there : 1 ≤ count (pack x c) (pendingIn (t .pending) ks cs)
   was-there = omega (arith, tk .leaves (pack x c), same-self (pack x c))
 
-  -- it is a smallest one
   least : Each (λ y. x ≤ y / 2 ^ 32) (pendingIn (t .pending) ks cs)
-  least =
-      let s = go .searching in
-      each-index (pendingIn (t .pending) ks cs) 0 (λ i lt.
-      let up : i < t .pending = rw (pending-long (t .pending) ks cs (s .in-keys) (s .in-corners)) at lt in
-      rw (getD-take (t .pending) (packed ks cs) i 0 up, packed-at i ks cs (omega (arith, s .in-keys)) (omega (arith, s .in-corners))) (omega (arith, tk .smallest i up)))
+  least = least-key (t .pending) ks cs x (go .searching .in-keys) (go .searching .in-corners) (tk .smallest)
 
   -- what is pending and what is handed out have room
   held : t .pending + t .handed ≤ max 1 (go .searching .joints)
@@ -123,8 +125,10 @@ module _ (p : Place) (bytes directory : List ℕ) (t : Tally) (ks cs : List ℕ)
         corner = c;
         corner-fits = tk .corner-fits;
         smallest = tk .smallest;
-        leaves = λ y. rw (none, pending-behind (t .pending - 1) (length ks′ - 1 - t .handed) x ks′ cs′ (omega (arith, tk .keys-long))) (omega (arith, tk .leaves y));
-        there = was-there;
+        rest = pendingIn (t .pending - 1) ks′ cs′;
+        leaves = tk .leaves;
+        comes = λ y. rw (none, pending-behind (t .pending - 1) (length ks′ - 1 - t .handed) x ks′ cs′ (omega (arith, tk .keys-long))) (omega arith);
+        pending-is = rw none (omega arith);
         trail-is = rw no-box refl;
         opened-is = rw no-box (omega arith);
         handed-are = rw is-joint (handed-more (t .handed) x ks′ (omega (arith, tk .keys-long, go .some)) ∙ ap (λ (l : List ℕ). l ++ x ∷ []) (handed-same (t .handed) (t .pending) ks ks′ (tk .keys-long) room (tk .behind)));
@@ -150,8 +154,10 @@ module _ (p : Place) (bytes directory : List ℕ) (t : Tally) (ks cs : List ℕ)
         corner = c;
         corner-fits = tk .corner-fits;
         smallest = tk .smallest;
-        leaves = λ y. rw counted (omega (arith, tk .leaves y, o .added .joins y));
-        there = was-there;
+        rest = pendingIn (t .pending - 1) ks′ cs′;
+        leaves = tk .leaves;
+        comes = λ y. rw counted (o .added .joins y);
+        pending-is = omega (arith, o .counted);
         trail-is = rw is-box refl;
         opened-is = rw is-box refl;
         handed-are = rw (no-joint, append-nil) (handed-same (t .handed) (t .pending - 1 + length new) ks′ ks″ (o .added .keys-long) (omega (arith, step-room, tk .keys-long, s .keys-room)) (o .added .behind)

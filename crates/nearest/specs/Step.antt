@@ -51,8 +51,10 @@ pub record Stepped (p : Place) (bytes : List ℕ) (t : Tally) (keys corners trai
   pub corner : ℕ
   pub corner-fits : corner < 2 ^ 32
   pub smallest : (i : ℕ) → i < t .pending → key ≤ getD keys i 0
-  pub leaves : (x : ℕ) → count x (pendingIn (t .pending) keys corners) + count x (map (packOf p) (kids bytes (entryOf key corner))) ≡ same x (pack key corner) + count x (pendingIn (t′ .pending) keys′ corners′)
-  pub there : 1 ≤ count (pack key corner) (pendingIn (t .pending) keys corners)
+  pub rest : List ℕ
+  pub leaves : (x : ℕ) → count x (pendingIn (t .pending) keys corners) ≡ same x (pack key corner) + count x rest
+  pub comes : (x : ℕ) → count x (pendingIn (t′ .pending) keys′ corners′) ≡ count x (map (packOf p) (kids bytes (entryOf key corner))) + count x rest
+  pub pending-is : t′ .pending ≡ length (kids bytes (entryOf key corner)) + (t .pending - 1)
   pub trail-is : trail′ ≡ adds trail (t .opened) (map idOf (keep isBox (key ∷ [])))
   pub opened-is : t′ .opened ≡ t .opened + length (keep isBox (key ∷ []))
   pub handed-are : handedIn (t′ .handed) keys′ ≡ handedIn (t .handed) keys ++ keep isJoint (key ∷ [])
