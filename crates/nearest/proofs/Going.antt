@@ -4,7 +4,7 @@ use mathlib.Core.Path.{_≡_, refl, sym, ap, ap₂, _∙_}
 use mathlib.Core.Logic.{_⊎_, inl, inr, ⊎-elim}
 use mathlib.Core.List.{List, [], _∷_, _++_, map, map-append, append-nil, append-assoc}
 use native.Mathlib.Omega.{arith}
-use native.Mathlib.Nat.{add-zero}
+use native.Mathlib.Nat.{add-zero, sub-zero}
 use lib.ListN.{length, replicate, length-append, length-map, length-replicate}
 use Rattle.order.specs.Order.{keep}
 use Rattle.order.specs.Bag.{same, count}
@@ -43,6 +43,21 @@ adds-append l n [] b = rw (add-zero n)
 adds-append l n (x ∷ a) b =
     let e : n + length (x ∷ a) ≡ suc n + length a = omega arith in
     rw e (adds-append _ (suc n) a b)
+
+-- stores behind the first place
+adds-cons : (a : ℕ) (l : List ℕ) (n : ℕ) (new : List ℕ) → adds (a ∷ l) (suc n) new ≡ a ∷ adds l n new
+unfolding adds
+adds-cons a l n [] = refl
+adds-cons a l n (x ∷ new) = adds-cons a _ (suc n) new
+
+-- some stored from the front of zeros on: they and then zeros
+pub adds-zeros : (n : ℕ) (l : List ℕ) → length l ≤ n → adds (replicate n 0) 0 l ≡ l ++ replicate (n - length l) 0
+unfolding adds
+adds-zeros n [] h = rw (sub-zero n)
+adds-zeros zero (x ∷ l) h = absurd (omega arith)
+adds-zeros (suc n) (x ∷ l) h =
+    let e : suc n - length (x ∷ l) ≡ n - length l = omega arith in
+    rw e (adds-cons x (replicate n 0) 0 l ∙ ap (λ (m : List ℕ). x ∷ m) (adds-zeros n l (omega arith)))
 
 -- one more box, or none, behind the trail
 pub trail-more : (zeros left : List ℕ) (x n : ℕ) (l : List ℕ) → n ≡ length (keep isBox left) → l ≡ adds zeros 0 (map idOf (keep isBox left))
@@ -141,4 +156,42 @@ module _ {p : Place} {h : ℕ} {bytes directory : List ℕ} {k room kl cl : ℕ}
         corners-room = omega (arith, d .corners-long, s .corners-room);
         keys-are = d .keys-long ∙ s .keys-are;
         corners-are = d .corners-long ∙ s .corners-are;
+      }
+
+  -- the boxes opened so far are the beginning of the trail
+  pub trail-so-far : 1 ≤ k → t .opened ≤ length (trail p h bytes k)
+  trail-so-far one =
+      let sound = ready-sound (s .ready) in
+      let j = length (joints h bytes) in
+      let b = trail-begun p h bytes (served-groups h bytes j (groups h bytes) sound) (served-height h bytes j (groups h bytes) sound) k one (s .underway .search) (s .underway .wanted) in
+      omega (arith, ap length (b .1), length-append (map idOf (keep isBox (s .left))) (b .0), length-map (keep isBox (s .left)) idOf, s .opened-is)
+
+  -- at the end, with the trail within its room, all is found
+  pub known-reached : 1 ≤ k → (t .pending ≡ 0) ⊎ (k ≤ t .handed) → t .opened ≤ room → Reached p h bytes k t keys trailList
+  known-reached one end fits =
+      let sound = ready-sound (s .ready) in
+      let stop : (k ≤ jointsIn (s .left)) ⊎ (map entryIn (pendingIn (t .pending) keys corners) ≡ []) =
+          ⊎-elim (λ z. inr (rw z refl)) (λ le. inl (omega (arith, joints-kept (s .left), s .handed-is))) end in
+      let answer = served-answer p h bytes sound k (s .underway .search) (s .underway .wanted) stop in
+      let way = served-trail p h bytes sound k one (s .underway .search) (s .underway .wanted) stop in
+      let many : length (trail p h bytes k) ≡ t .opened = ap length (sym way) ∙ length-map (keep isBox (s .left)) idOf ∙ sym (s .opened-is) in
+      let same : trailList ≡ adds (replicate room 0) 0 (trail p h bytes k) = rw (← way) (s .trail-is) in
+      let long : length trailList ≡ room = ap length same ∙ length-adds (replicate room 0) 0 (trail p h bytes k) ∙ length-replicate room 0 in
+      record {
+        opened = sym many;
+        handed = s .handed-is ∙ ap length answer;
+        answer = s .handed-are ∙ answer;
+        in-trail = rw long (same ∙ adds-zeros room (trail p h bytes k) (omega arith));
+      }
+
+  -- the end of the search
+  pub known-ends : 1 ≤ k → (t .pending ≡ 0) ⊎ ((k ≤ t .handed) ⊎ (room < t .opened)) → Ends p h bytes k room t keys corners trailList kl cl
+  known-ends one end =
+      record {
+        enough = λ fits. known-reached one (⊎-elim (λ z. inl z) (λ w. ⊎-elim (λ le. inr le) (λ more. absurd (omega arith)) w) end) fits;
+        short = λ more. omega (arith, trail-so-far one);
+        keys-are = s .keys-are;
+        corners-are = s .corners-are;
+        trail-are = ap length (s .trail-is) ∙ length-adds (replicate room 0) 0 (map idOf (keep isBox (s .left))) ∙ length-replicate room 0;
+        handed-fits = omega (arith, served-room p h bytes (ready-sound (s .ready)) (s .underway .search), joints-kept (s .left), s .handed-is, s .keys-room);
       }
