@@ -1,4 +1,5 @@
 pub mod Kinds
 pub mod Records
 pub mod Sheet
+pub mod Scan
 pub mod Answers
