@@ -1,3 +1,4 @@
 pub mod Marked
 pub mod Recording
 pub mod Scanning
+pub mod Shape

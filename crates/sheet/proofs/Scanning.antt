@@ -116,7 +116,7 @@ unfolding heightIn cellsIn
 said-more h joints r rs = let many : joints + length (cellIn r) + length (cellsIn rs) ≡ joints + length (cellIn r ++ cellsIn rs) = omega (arith, length-append (cellIn r) (cellsIn rs)) in rw many
 
 -- a record that is not the end comes before the rest
-before-rest : (sheet : List ℕ) (next : ℕ) (r : Record) (v : Verdict (List Record)) → isEnd r ≡ false → withRest sheet next r v ≡ (v onward λ rs. Accepted (r ∷ rs))
+pub before-rest : (sheet : List ℕ) (next : ℕ) (r : Record) (v : Verdict (List Record)) → isEnd r ≡ false → withRest sheet next r v ≡ (v onward λ rs. Accepted (r ∷ rs))
 unfolding withRest
 before-rest sheet next (Board h) v go = refl
 before-rest sheet next (Joint r c) v go = refl
@@ -155,7 +155,7 @@ module _ (sheet : List ℕ) (p : Place) (lt : p .at < length sheet) (n : ℕ) wh
       (onward-same rest _ _ (said-more (p .height) (p .joints) r))
 
 -- the end is the record that says so
-end-is : (r : Record) → isEnd r ≡ true → r ≡ End
+pub end-is : (r : Record) → isEnd r ≡ true → r ≡ End
 end-is (Board h) e = let z : _≡_ {A = ℕ} 0 1 = cc in absurd (omega arith)
 end-is (Joint r c) e = let z : _≡_ {A = ℕ} 0 1 = cc in absurd (omega arith)
 end-is (Question k r c) e = let z : _≡_ {A = ℕ} 0 1 = cc in absurd (omega arith)

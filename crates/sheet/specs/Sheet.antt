@@ -78,6 +78,19 @@ unfoldable pub cellsIn : List Record → List Box
 cellsIn [] = []
 cellsIn (r ∷ rs) = cellIn r ++ cellsIn rs
 
--- the offset of the first record after the joints: the board record and each joint record with its byte of kind
-unfoldable pub afterJoints : List Record → ℕ
-afterJoints rs = (1 + bodyLength boardKind) + (1 + bodyLength jointKind) * length (cellsIn rs)
+-- the offset of joint record i: the board record and the joint records before it, each with its byte of kind
+abbrev pub jointOffset : ℕ → ℕ
+jointOffset i = (1 + bodyLength boardKind) + (1 + bodyLength jointKind) * i
+
+-- the offset of the first record after the joints
+abbrev pub afterJoints : List Record → ℕ
+afterJoints rs = jointOffset (length (cellsIn rs))
+
+-- the records after the joints
+unfoldable pub requestsIn : List Record → List Record
+requestsIn [] = []
+requestsIn (Board h ∷ rs) = requestsIn rs
+requestsIn (Joint r c ∷ rs) = requestsIn rs
+requestsIn (Question k r c ∷ rs) = Question k r c ∷ requestsIn rs
+requestsIn (Window a b c d ∷ rs) = Window a b c d ∷ requestsIn rs
+requestsIn (End ∷ rs) = End ∷ requestsIn rs
