@@ -109,10 +109,20 @@ module _ {p : Place} {h : ℕ} {bytes directory : List ℕ} {k room kl cl : ℕ}
   known-goes some fewer =
       record {
         searching = record {
-          height = h; joints = length (joints h bytes); groups = groups h bytes; wanted = k; left = s .left; sound = ready-sound (s .ready); ready = s .ready; underway = s .underway;
+          height = h;
+          joints = length (joints h bytes);
+          groups = groups h bytes;
+          wanted = k;
+          left = s .left;
+          sound = ready-sound (s .ready);
+          ready = s .ready;
+          underway = s .underway;
           handed-out = sym (joints-kept (s .left)) ∙ sym (s .handed-is);
           counted = omega (arith, boxes-kept (s .left), joints-kept (s .left), s .opened-is, s .handed-is);
-          in-keys = s .in-keys; in-corners = s .in-corners; keys-room = s .keys-room; corners-room = s .corners-room;
+          in-keys = s .in-keys;
+          in-corners = s .in-corners;
+          keys-room = s .keys-room;
+          corners-room = s .corners-room;
         };
         fewer = fewer;
         some = some;
@@ -122,8 +132,16 @@ module _ {p : Place} {h : ℕ} {bytes directory : List ℕ} {k room kl cl : ℕ}
   pub known-bound : t .opened + t .handed + t .pending ≤ groups h bytes + length (joints h bytes)
   known-bound =
       let pend = pendingIn (t .pending) keys corners in
-      omega (arith, boxes-kept (s .left), joints-kept (s .left), s .opened-is, s .handed-is, length-map pend entryIn, pending-long (t .pending) keys corners (s .in-keys) (s .in-corners),
-        board-entries p h bytes (served-groups h bytes (length (joints h bytes)) (groups h bytes) (ready-sound (s .ready))) (s .underway .search))
+      omega (
+        arith,
+        boxes-kept (s .left),
+        joints-kept (s .left),
+        s .opened-is,
+        s .handed-is,
+        length-map pend entryIn,
+        pending-long (t .pending) keys corners (s .in-keys) (s .in-corners),
+        board-entries p h bytes (served-groups h bytes (length (joints h bytes)) (groups h bytes) (ready-sound (s .ready))) (s .underway .search),
+      )
 
   -- a step keeps it
   pub known-next : {t′ : Tally} {keys′ corners′ trail′ : List ℕ} → 0 < t .pending → t .handed < k → Stepped p bytes t keys corners trailList t′ keys′ corners′ trail′
@@ -138,7 +156,7 @@ module _ {p : Place} {h : ℕ} {bytes directory : List ℕ} {k room kl cl : ℕ}
       let wanted : jointsIn (s .left) < k = omega (arith, joints-kept (s .left), s .handed-is) in
       let least = least-key (t .pending) keys corners x (s .in-keys) (s .in-corners) (d .smallest) in
       let many : length (d .rest) ≡ t .pending - 1 =
-          omega (arith, total-bag (λ y. 1) pend (pack x c ∷ d .rest) (d .leaves), total-one pend, total-one (d .rest), pending-long (t .pending) keys corners (s .in-keys) (s .in-corners)) in
+      omega (arith, total-bag (λ y. 1) pend (pack x c ∷ d .rest) (d .leaves), total-one pend, total-one (d .rest), pending-long (t .pending) keys corners (s .in-keys) (s .in-corners)) in
       let space = pending-room p h bytes sound k (s .underway) x c (d .corner-fits) there (d .rest) wanted least (d .leaves) in
       let boxes : keep isBox (s .left ++ x ∷ []) ≡ keep isBox (s .left) ++ keep isBox (x ∷ []) = keep-append isBox (s .left) (x ∷ []) in
       let found : keep isJoint (s .left ++ x ∷ []) ≡ keep isJoint (s .left) ++ keep isJoint (x ∷ []) = keep-append isJoint (s .left) (x ∷ []) in
@@ -171,7 +189,7 @@ module _ {p : Place} {h : ℕ} {bytes directory : List ℕ} {k room kl cl : ℕ}
   known-reached one end fits =
       let sound = ready-sound (s .ready) in
       let stop : (k ≤ jointsIn (s .left)) ⊎ (map entryIn (pendingIn (t .pending) keys corners) ≡ []) =
-          ⊎-elim (λ z. inr (rw z refl)) (λ le. inl (omega (arith, joints-kept (s .left), s .handed-is))) end in
+      ⊎-elim (λ z. inr (rw z refl)) (λ le. inl (omega (arith, joints-kept (s .left), s .handed-is))) end in
       let answer = served-answer p h bytes sound k (s .underway .search) (s .underway .wanted) stop in
       let way = served-trail p h bytes sound k one (s .underway .search) (s .underway .wanted) stop in
       let many : length (trail p h bytes k) ≡ t .opened = ap length (sym way) ∙ length-map (keep isBox (s .left)) idOf ∙ sym (s .opened-is) in

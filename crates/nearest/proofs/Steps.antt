@@ -61,8 +61,13 @@ handed-more m k ks h =
     let at : length ks - 1 - m ≡ length ks - suc m = omega arith in
     let long : length (set ks (length ks - suc m) k) ≡ length ks = length-set ks (length ks - suc m) k in
     let one : m + 1 ≡ suc m = omega arith in
-    rw (at, one, long, getD-set-same ks (length ks - suc m) k 0 (omega arith),
-      handed-same m (length ks - m) ks (set ks (length ks - suc m) k) long (omega arith) (λ i le. getD-set-other ks (length ks - suc m) i k 0 (λ q. omega arith)))
+    rw (
+      at,
+      one,
+      long,
+      getD-set-same ks (length ks - suc m) k 0 (omega arith),
+      handed-same m (length ks - m) ks (set ks (length ks - suc m) k) long (omega arith) (λ i le. getD-set-other ks (length ks - suc m) i k 0 (λ q. omega arith)),
+    )
 
 -- a search is never long: so its tally fits 32 bits
 pub tally-small : {p : Place} {bytes directory : List ℕ} {t : Tally} {ks cs : List ℕ} (s : Searching p bytes directory t ks cs) → (max 1 (s .joints) < 2 ^ 16) × (t .opened + t .handed < 2 ^ 16)
@@ -107,7 +112,7 @@ module _ (p : Place) (bytes directory : List ℕ) (t : Tally) (ks cs : List ℕ)
       let s = go .searching in
       let o = step-box box in
       let many : length (kids bytes (entryOf x c)) ≡ onesOf (groupAt bytes (idOf x)) =
-          rw (o .is .left, o .is .group) (length-kids p (s .height) bytes (s .sound) (o .level) (entryOf x c .group) (entryOf x c .box)) in
+      rw (o .is .left, o .is .group) (length-kids p (s .height) bytes (s .sound) (o .level) (entryOf x c .group) (entryOf x c .box)) in
       record { keys-room = omega (arith, step-room, s .keys-room, tk .keys-long); corners-room = omega (arith, step-room, s .corners-room, tk .corners-long) }
 
   -- the joint that left joins the answer
@@ -161,7 +166,7 @@ module _ (p : Place) (bytes directory : List ℕ) (t : Tally) (ks cs : List ℕ)
         trail-is = rw is-box refl;
         opened-is = rw is-box refl;
         handed-are = rw (no-joint, append-nil) (handed-same (t .handed) (t .pending - 1 + length new) ks′ ks″ (o .added .keys-long) (omega (arith, step-room, tk .keys-long, s .keys-room)) (o .added .behind)
-        ∙ handed-same (t .handed) (t .pending) ks ks′ (tk .keys-long) room (tk .behind));
+            ∙ handed-same (t .handed) (t .pending) ks ks′ (tk .keys-long) room (tk .behind));
         handed-is = rw no-joint (omega arith);
         keys-long = o .added .keys-long ∙ tk .keys-long;
         corners-long = o .added .corners-long ∙ tk .corners-long;

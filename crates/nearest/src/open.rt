@@ -40,7 +40,17 @@ pub fn entered(p: Place, level: u32, g: GroupNo, row: u32, column: u32) -> Entry
 }
 
 // The entry of a quarter becomes pending where its bit is one.
-fn add_where_one(p: Place, bit: u32, level: u32, g: GroupNo, row: u32, column: u32, pending: usize, keys: &mut [u64], corners: &mut [u32]) -> usize
+fn add_where_one(
+    p: Place,
+    bit: u32,
+    level: u32,
+    g: GroupNo,
+    row: u32,
+    column: u32,
+    pending: usize,
+    keys: &mut [u64],
+    corners: &mut [u32],
+) -> usize
     requires { ⌜ (Named p) × (Fits level row column) × (bit < 2) × (pending + bit ≤ length (now keys)) × (pending + bit ≤ length (now corners)) ⌝ }
     ensures { λ r. ⌜ (r ≡ pending + bit) × ((b : Box) → Corner level row column b → Added pending (map (packOf (placeOf p)) (if-one bit (entry level (g .0) b))) (now (keys .entry)) (now (corners .entry)) (now (keys .exit)) (now (corners .exit))) ⌝ }
 {
@@ -64,7 +74,17 @@ fn shifted(first: u32, half: u32, second: u32) -> u32
 }
 
 // The quarters of a box whose bits are one become pending, each with so many levels; their groups follow one another.
-fn add_ones(p: Place, bits: u32, first: GroupNo, level: u32, row: u32, column: u32, pending: usize, keys: &mut [u64], corners: &mut [u32]) -> usize
+fn add_ones(
+    p: Place,
+    bits: u32,
+    first: GroupNo,
+    level: u32,
+    row: u32,
+    column: u32,
+    pending: usize,
+    keys: &mut [u64],
+    corners: &mut [u32],
+) -> usize
     requires { ⌜ (Named p) × (Fits (suc level) row column) × (first .0 ≤ 2 ^ 17) × (OnesFit bits pending (length (now keys)) (length (now corners))) ⌝ }
     ensures { λ r. ⌜ ((b : Box) → Corner (suc level) row column b → Opened (placeOf p) (along (entry level) (first .0) (quarters bits b)) pending (now (keys .entry)) (now (corners .entry)) r (now (keys .exit)) (now (corners .exit))) ⌝ }
 {
@@ -84,7 +104,18 @@ fn add_ones(p: Place, bits: u32, first: GroupNo, level: u32, row: u32, column: u
 }
 
 // A box is opened, whose quarters have so many levels: its ones become pending.
-pub fn open_box(p: Place, bytes: &[u8], directory: &[u16], g: GroupNo, level: u32, row: u32, column: u32, pending: usize, keys: &mut [u64], corners: &mut [u32]) -> usize
+pub fn open_box(
+    p: Place,
+    bytes: &[u8],
+    directory: &[u16],
+    g: GroupNo,
+    level: u32,
+    row: u32,
+    column: u32,
+    pending: usize,
+    keys: &mut [u64],
+    corners: &mut [u32],
+) -> usize
     requires { ⌜ (Named p) × (Opens (now bytes) (now directory) (g .0) level row column) × (OnesFit (groupAt (now bytes) (g .0)) pending (length (now keys)) (length (now corners))) ⌝ }
     ensures { λ r. ⌜ ((b : Box) → Corner (suc level) row column b → Opened (placeOf p) (kidsAt (now (bytes .entry)) (suc level) (g .0) b) pending (now (keys .entry)) (now (corners .entry)) r (now (keys .exit)) (now (corners .exit))) ⌝ }
 {

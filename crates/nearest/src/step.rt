@@ -43,7 +43,15 @@ fn join(trail: &mut [u32], opened: usize, g: GroupNo)
 }
 
 // The box of an entry that left is opened.
-fn open_entry(p: Place, bytes: &[u8], directory: &[u16], e: Entry, pending: usize, keys: &mut [u64], corners: &mut [u32]) -> usize
+fn open_entry(
+    p: Place,
+    bytes: &[u8],
+    directory: &[u16],
+    e: Entry,
+    pending: usize,
+    keys: &mut [u64],
+    corners: &mut [u32],
+) -> usize
     requires { ⌜ (Named p) × (BoxOpens (now bytes) (now directory) (e .key) (e .corner)) × (OnesFit (groupAt (now bytes) (idOf (e .key))) pending (length (now keys)) (length (now corners))) ⌝ }
     ensures { λ r. ⌜ Opened (placeOf p) (kids (now (bytes .entry)) (entryOf (e .key) (e .corner))) pending (now (keys .entry)) (now (corners .entry)) r (now (keys .exit)) (now (corners .exit)) ⌝ }
 {
@@ -51,11 +59,30 @@ fn open_entry(p: Place, bytes: &[u8], directory: &[u16], e: Entry, pending: usiz
     let level = entry::levels_of(e.corner) - 1;
     let row = entry::top_of(e.corner);
     let column = entry::left_of(e.corner);
-    open_box(p, bytes, directory, g, level, row, column, pending, keys, corners)
+    open_box(
+        p,
+        bytes,
+        directory,
+        g,
+        level,
+        row,
+        column,
+        pending,
+        keys,
+        corners,
+    )
 }
 
 // The work of a step, with the tally by value.
-pub fn step_core(t: Tally, p: Place, bytes: &[u8], directory: &[u16], keys: &mut [u64], corners: &mut [u32], trail: &mut [u32]) -> Tally
+pub fn step_core(
+    t: Tally,
+    p: Place,
+    bytes: &[u8],
+    directory: &[u16],
+    keys: &mut [u64],
+    corners: &mut [u32],
+    trail: &mut [u32],
+) -> Tally
     requires { ⌜ (Named p) × (Goes (placeOf p) (now bytes) (now directory) t (now keys) (now corners)) ⌝ }
     ensures { λ r. ⌜ Stepped (placeOf p) (now (bytes .entry)) t (now (keys .entry)) (now (corners .entry)) (now (trail .entry)) r (now (keys .exit)) (now (corners .exit)) (now (trail .exit)) ⌝ }
 {
@@ -72,7 +99,15 @@ pub fn step_core(t: Tally, p: Place, bytes: &[u8], directory: &[u16], keys: &mut
         };
     }
     join(trail, opened as usize, entry::group_of(e.key));
-    let now_pending = open_entry(p, bytes, directory, e, (pending - 1) as usize, keys, corners);
+    let now_pending = open_entry(
+        p,
+        bytes,
+        directory,
+        e,
+        (pending - 1) as usize,
+        keys,
+        corners,
+    );
     Tally {
         opened: opened + 1,
         pending: now_pending as u32,
@@ -81,7 +116,15 @@ pub fn step_core(t: Tally, p: Place, bytes: &[u8], directory: &[u16], keys: &mut
 }
 
 // The step: the tally is lent, and changed.
-pub fn step(t: &mut Tally, p: Place, bytes: &[u8], directory: &[u16], keys: &mut [u64], corners: &mut [u32], trail: &mut [u32])
+pub fn step(
+    t: &mut Tally,
+    p: Place,
+    bytes: &[u8],
+    directory: &[u16],
+    keys: &mut [u64],
+    corners: &mut [u32],
+    trail: &mut [u32],
+)
     requires { ⌜ (Named p) × (Goes (placeOf p) (now bytes) (now directory) (now t) (now keys) (now corners)) ⌝ }
     ensures { λ _. ⌜ Stepped (placeOf p) (now (bytes .entry)) (now (t .entry)) (now (keys .entry)) (now (corners .entry)) (now (trail .entry)) (now (t .exit)) (now (keys .exit)) (now (corners .exit)) (now (trail .exit)) ⌝ }
 {
@@ -89,7 +132,15 @@ pub fn step(t: &mut Tally, p: Place, bytes: &[u8], directory: &[u16], keys: &mut
 }
 
 // One turn of the search: a tally of its own is lent to the step.
-pub fn turn(t: Tally, p: Place, bytes: &[u8], directory: &[u16], keys: &mut [u64], corners: &mut [u32], trail: &mut [u32]) -> Tally
+pub fn turn(
+    t: Tally,
+    p: Place,
+    bytes: &[u8],
+    directory: &[u16],
+    keys: &mut [u64],
+    corners: &mut [u32],
+    trail: &mut [u32],
+) -> Tally
     requires { ⌜ (Named p) × (Goes (placeOf p) (now bytes) (now directory) t (now keys) (now corners)) ⌝ }
     ensures { λ r. ⌜ Stepped (placeOf p) (now (bytes .entry)) t (now (keys .entry)) (now (corners .entry)) (now (trail .entry)) r (now (keys .exit)) (now (corners .exit)) (now (trail .exit)) ⌝ }
 {
