@@ -4,104 +4,68 @@ use board::check::check;
 use board::directory::make_directory;
 use board::member::Membership;
 use board::member::member;
-use refusal::Refusal;
-
-fn say(text: &[u8]) {
-    io::write_all(1, text);
-}
-
-fn say_number(n: u32) {
-    io::print_decimal(1, n as u64);
-}
-
-fn say_refused(refusal: Refusal) {
-    say(b"refused ");
-    say_number(refusal.number());
-}
 
 fn say_board(joints: u32, boxes: u32) {
-    say_number(joints);
-    say(b" joints ");
-    say_number(boxes);
-    say(b" boxes");
+    say::number(joints);
+    say::text(b" joints ");
+    say::number(boxes);
+    say::text(b" boxes");
 }
 
 fn say_checked(answer: Checked) {
     match answer {
         Checked::Board { joints, boxes } => say_board(joints, boxes),
-        Checked::Refused(refusal) => say_refused(refusal),
+        Checked::Refused(refusal) => say::refused(refusal),
     }
 }
 
 fn say_membership(answer: Membership) {
     match answer {
-        Membership::Stored => say(b"stored"),
-        Membership::Absent => say(b"absent"),
-        Membership::Refused(refusal) => say_refused(refusal),
-    }
-}
-
-fn say_byte(b: u8) {
-    io::print_hex(1, b as u64, 2);
-}
-
-fn say_bytes(bytes: &[u8]) {
-    for i in 0..bytes.len() {
-        say(b" ");
-        say_byte(bytes[i]);
-    }
-}
-
-fn say_entry(n: u16) {
-    io::print_decimal(1, n as u64);
-}
-
-fn say_entries(list: &[u16]) {
-    for i in 0..list.len() {
-        say(b" ");
-        say_entry(list[i]);
+        Membership::Stored => say::text(b"stored"),
+        Membership::Absent => say::text(b"absent"),
+        Membership::Refused(refusal) => say::refused(refusal),
     }
 }
 
 // `check`, the height, the bytes, and what the check says.
 fn show_check(height: u32, bytes: &[u8]) {
-    say(b"check ");
-    say_number(height);
-    say_bytes(bytes);
-    say(b": ");
+    say::text(b"check ");
+    say::number(height);
+    say::bytes(bytes);
+    say::text(b": ");
     say_checked(check(height, bytes));
-    say(b"\n");
+    say::text(b"\n");
 }
 
 // `large`, a name, and what the check says of a board of height 10.
 fn show_large(name: &[u8], bytes: &[u8]) {
-    say(b"large ");
-    say(name);
-    say(b": ");
+    say::text(b"large ");
+    say::text(name);
+    say::text(b": ");
     say_checked(check(10, bytes));
-    say(b"\n");
+    say::text(b"\n");
 }
 
 // `directory`, the answer, and what is left in the list.
 fn show_directory(height: u32, bytes: &[u8], list: &mut [u16]) {
-    say(b"directory");
-    say_bytes(bytes);
-    say(b": ");
+    say::text(b"directory");
+    say::bytes(bytes);
+    say::text(b": ");
     say_checked(make_directory(height, bytes, list));
-    say(b",");
-    say_entries(list);
-    say(b"\n");
+    say::text(b",");
+    say::shorts(list);
+    say::text(b"\n");
 }
 
 // `member`, the cell, and whether it is stored.
 fn show_member(height: u32, bytes: &[u8], directory: &[u16], row: u32, column: u32) {
-    say(b"member ");
-    say_number(row);
-    say(b" ");
-    say_number(column);
-    say(b": ");
+    say::text(b"member ");
+    say::number(row);
+    say::text(b" ");
+    say::number(column);
+    say::text(b": ");
     say_membership(member(height, bytes, directory, row, column));
-    say(b"\n");
+    say::text(b"\n");
 }
 
 // A board's height 2 cells in one row.
@@ -174,7 +138,7 @@ fn large_examples() {
     show_large(b"16i 16j", &bytes);
     let mut directory = [0u16; 139];
     say_checked(make_directory(10, &bytes, &mut directory));
-    say(b" and a directory\n");
+    say::text(b" and a directory\n");
     show_member(10, &bytes, &directory, 1008, 1008);
     show_member(10, &bytes, &directory, 16, 17);
     show_member(10, &bytes, &directory, 1024, 0);

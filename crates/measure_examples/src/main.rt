@@ -2,95 +2,62 @@
 use measure::Marked;
 use measure::Reading;
 use measure::Writing;
-use refusal::Refusal;
-
-// How a refused call is told.
-fn say_refused(refusal: Refusal) {
-    io::write_all(1, b"refused ");
-    io::print_decimal(1, refusal.number() as u64);
-}
-
-fn say_size(n: u32) {
-    io::print_decimal(1, n as u64);
-}
 
 fn say_reading(reading: Reading) {
     match reading {
-        Reading::Value(n) => say_size(n),
-        Reading::Refused(refusal) => say_refused(refusal),
+        Reading::Value(n) => say::number(n),
+        Reading::Refused(refusal) => say::refused(refusal),
     }
-}
-
-fn say_signed(z: i32) {
-    if z < 0 {
-        io::write_all(1, b"-");
-    }
-    say_size(measure::size_of(z));
 }
 
 fn say_marked(marked: Marked) {
     match marked {
-        Marked::Value(z) => say_signed(z),
-        Marked::Refused(refusal) => say_refused(refusal),
+        Marked::Value(z) => say::signed(z),
+        Marked::Refused(refusal) => say::refused(refusal),
     }
-}
-
-fn say_done() {
-    io::write_all(1, b"done");
 }
 
 fn say_writing(writing: Writing) {
     match writing {
-        Writing::Done => say_done(),
-        Writing::Refused(refusal) => say_refused(refusal),
+        Writing::Done => say::text(b"done"),
+        Writing::Refused(refusal) => say::refused(refusal),
     }
 }
 
 // `read`, the text, and what is read of it.
 fn show(text: &[u8]) {
-    io::write_all(1, b"read ");
-    io::write_all(1, text);
-    io::write_all(1, b": ");
+    say::text(b"read ");
+    say::text(text);
+    say::text(b": ");
     say_reading(measure::read(text));
-    io::write_all(1, b"\n");
+    say::text(b"\n");
 }
 
 fn show_marked(text: &[u8]) {
-    io::write_all(1, b"marked ");
-    io::write_all(1, text);
-    io::write_all(1, b": ");
+    say::text(b"marked ");
+    say::text(text);
+    say::text(b": ");
     say_marked(measure::read_marked(text));
-    io::write_all(1, b"\n");
-}
-
-// The bytes that are left, each as a number.
-fn say_bytes(list: &[u8]) {
-    for i in 0..list.len() {
-        io::write_all(1, b" ");
-        say_byte(list[i]);
-    }
-    io::write_all(1, b"\n");
-}
-
-fn say_byte(b: u8) {
-    io::print_decimal(1, b as u64);
+    say::text(b"\n");
 }
 
 // `write`, the number, the answer and what is left in the room.
 fn show_write(n: u32, room: &mut [u8]) {
-    io::write_all(1, b"write ");
-    say_size(n);
-    io::write_all(1, b": ");
+    say::text(b"write ");
+    say::number(n);
+    say::text(b": ");
     say_writing(measure::write(n, room));
-    say_bytes(room);
+    say::bytes(room);
+    say::text(b"\n");
 }
 
 fn show_write_marked(z: i32, room: &mut [u8]) {
-    io::write_all(1, b"write marked ");
-    say_signed(z);
-    io::write_all(1, b": ");
+    say::text(b"write marked ");
+    say::signed(z);
+    say::text(b": ");
     say_writing(measure::write_marked(z, room));
-    say_bytes(room);
+    say::bytes(room);
+    say::text(b"\n");
 }
 
 // The examples of document 01 come first.
