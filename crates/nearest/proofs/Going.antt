@@ -176,6 +176,10 @@ module _ {p : Place} {h : ℕ} {bytes directory : List ℕ} {k room kl cl : ℕ}
         corners-are = d .corners-long ∙ s .corners-are;
       }
 
+  -- the trail list keeps its length
+  pub known-long : length trailList ≡ room
+  known-long = ap length (s .trail-is) ∙ length-adds (replicate room 0) 0 (map idOf (keep isBox (s .left))) ∙ length-replicate room 0
+
   -- the boxes opened so far are the beginning of the trail
   pub trail-so-far : 1 ≤ k → t .opened ≤ length (trail p h bytes k)
   trail-so-far one =
@@ -194,12 +198,11 @@ module _ {p : Place} {h : ℕ} {bytes directory : List ℕ} {k room kl cl : ℕ}
       let way = served-trail p h bytes sound k one (s .underway .search) (s .underway .wanted) stop in
       let many : length (trail p h bytes k) ≡ t .opened = ap length (sym way) ∙ length-map (keep isBox (s .left)) idOf ∙ sym (s .opened-is) in
       let same : trailList ≡ adds (replicate room 0) 0 (trail p h bytes k) = rw (← way) (s .trail-is) in
-      let long : length trailList ≡ room = ap length same ∙ length-adds (replicate room 0) 0 (trail p h bytes k) ∙ length-replicate room 0 in
       record {
         opened = sym many;
         handed = s .handed-is ∙ ap length answer;
         answer = s .handed-are ∙ answer;
-        in-trail = rw long (same ∙ adds-zeros room (trail p h bytes k) (omega arith));
+        in-trail = rw known-long (same ∙ adds-zeros room (trail p h bytes k) (omega arith));
       }
 
   -- the end of the search
@@ -210,6 +213,6 @@ module _ {p : Place} {h : ℕ} {bytes directory : List ℕ} {k room kl cl : ℕ}
         short = λ more. omega (arith, trail-so-far one);
         keys-are = s .keys-are;
         corners-are = s .corners-are;
-        trail-are = ap length (s .trail-is) ∙ length-adds (replicate room 0) 0 (map idOf (keep isBox (s .left))) ∙ length-replicate room 0;
+        trail-are = known-long;
         handed-fits = omega (arith, served-room p h bytes (ready-sound (s .ready)) (s .underway .search), joints-kept (s .left), s .handed-is, s .keys-room);
       }

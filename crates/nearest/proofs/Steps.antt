@@ -21,6 +21,7 @@ use Rattle.search.specs.Near.{Place}
 use Rattle.search.specs.Keys.{kindOf, isBox, isJoint, idOf}
 use Rattle.search.specs.Entries.{entryOf, entryIn, pack, packOf}
 use Rattle.search.proofs.Board.{served-room, board-entries}
+use Rattle.search.proofs.Visit.{boxes-kept, joints-kept}
 use Rattle.search.proofs.Boxes.{pending-box, pending-joint, pending-room, length-kids}
 use Rattle.nearest.specs.declared.step.Tally.{Tally}
 use Rattle.nearest.specs.Pending.{packed, pendingIn, Taken}
@@ -179,3 +180,7 @@ kind-joint x e t = eqb-true (kindOf x) 1 (sym e ∙ t)
 -- and one that is not
 pub kind-box : (x : ℕ) {r : Bool} → r ≡ eqb (kindOf x) 1 → r ≡ false → kindOf x ≡ 0
 kind-box x e t = omega (arith, eqb-false (kindOf x) 1 (sym e ∙ t))
+
+-- a step is one more box opened or one more joint handed out
+pub steps-count : {p : Place} {bytes : List ℕ} {t t′ : Tally} {ks cs l ks′ cs′ l′ : List ℕ} → Stepped p bytes t ks cs l t′ ks′ cs′ l′ → t′ .opened + t′ .handed ≡ t .opened + t .handed + 1
+steps-count d = omega (arith, d .opened-is, d .handed-is, boxes-kept (d .key ∷ []), joints-kept (d .key ∷ []))
