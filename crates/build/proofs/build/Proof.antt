@@ -1,3 +1,4 @@
+-- Refused for what is given, or built from the codes of the cells.
 use borrow.Author.Needs.{needs}
 use mathlib.Core.Path.{sym, ap, _∙_}
 use Rattle.build.specs.Promise.{givenNumbers}

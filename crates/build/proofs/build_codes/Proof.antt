@@ -1,3 +1,4 @@
+-- Each way out is an end of Building, from what tidying, clearing and writing ensure.
 use borrow.Author.Needs.{needs}
 use Prim.Native.Nat.{ℕ}
 use mathlib.Core.Path.{refl, sym, ap, _∙_}

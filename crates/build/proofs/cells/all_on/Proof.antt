@@ -1,3 +1,4 @@
+-- The loop keeps that what is left to be tested decides; a cell off the board ends it.
 use borrow.Author.Needs.{needs}
 use Prim.Native.Nat.{_-_}
 use native.Mathlib.Omega.{arith}

@@ -1,3 +1,4 @@
+-- The digits found so far are the code of the box of side 2 ^ left that the cell is in.
 use borrow.Author.Needs.{needs}
 use native.Mathlib.Omega.{arith}
 use Rattle.board.specs.Limits.{maxHeight}

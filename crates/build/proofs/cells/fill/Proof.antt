@@ -1,3 +1,4 @@
+-- The loop keeps that the first i places are the codes of the first i cells.
 use borrow.Author.Needs.{needs}
 use Prim.Native.Nat.{_-_}
 use native.Mathlib.Omega.{arith}

@@ -1,3 +1,4 @@
+-- Two bits are a digit to base 4.
 use borrow.Author.Needs.{needs}
 use Rattle.build.proofs.Digits.{two-bits}
 use Rattle.build.proofs.levels.box_of.Statement.{statement}

@@ -1,3 +1,4 @@
+-- A group of even number is the upper half of its byte.
 use borrow.Author.Needs.{needs}
 use mathlib.Core.Path.{sym}
 use Rattle.build.proofs.Digits.{in-upper, in-lower}

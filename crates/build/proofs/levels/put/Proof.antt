@@ -1,3 +1,4 @@
+-- A store in the room there is; past it nothing changes.
 use borrow.Author.Needs.{needs}
 use Prim.Native.Nat.{_/_}
 use mathlib.Core.Path.{sym}

@@ -1,3 +1,4 @@
+-- A shifted 8 is the bit of a quarter.
 use borrow.Author.Needs.{needs}
 use native.Mathlib.Omega.{arith}
 use Rattle.build.proofs.Digits.{worth-shifted, worth-small}

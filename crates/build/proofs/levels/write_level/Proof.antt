@@ -1,3 +1,4 @@
+-- The loop keeps `Turn`: of the codes seen, the closed boxes are written and the open one is in hand. Each way through it is a law of Turn.
 use borrow.Author.Needs.{needs}
 use Prim.Native.Nat.{_-_}
 use mathlib.Core.Path.{ap, _∙_}

@@ -1,3 +1,4 @@
+-- The loop keeps `Descent`: the levels above are written, and what is left to write are the groups from here down.
 use borrow.Author.Needs.{needs}
 use Prim.Native.Nat.{_≤_}
 use mathlib.Core.Path.{_≡_, refl, _∙_}

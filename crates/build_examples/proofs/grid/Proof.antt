@@ -1,0 +1,56 @@
+-- The loop's counter stays in its range.
+use Prim.Native.Nat.{_-_, _≤_}
+use mathlib.Core.Path.{_≡_}
+use lib.ListN.{length}
+use borrow.Author.Needs.{needs}
+use Rattle.build_examples.proofs.grid.Statement.{statement}
+use Rattle.build_examples.proofs.grid.Tie as tie
+
+abbrev Inv-loop : tie.InvT-loop
+Inv-loop list₀ period width step column i₀ i-end list i = (i ≤ i-end) × (length list ≡ i-end)
+
+abbrev μ-loop : tie.MeasureT-loop
+μ-loop list₀ period width step column i₀ i-end list i = i-end - i
+
+loop-holds : tie.Need-loop-holds Inv-loop μ-loop
+loop-holds c = search needs
+
+coordinate-requires : tie.Need-coordinate-requires Inv-loop μ-loop
+coordinate-requires c κs = search needs
+
+mul-list : tie.Need-mul-list Inv-loop μ-loop
+mul-list c = search needs
+
+slice-write-list : tie.Need-slice-write-list Inv-loop μ-loop
+slice-write-list c = search needs
+
+add-i : tie.Need-add-i Inv-loop μ-loop
+add-i c = search needs
+
+loop-less : tie.Need-loop-less Inv-loop μ-loop
+loop-less c = search needs
+
+loop-again : tie.Need-loop-again Inv-loop μ-loop
+loop-again c = search needs
+
+same-length : tie.Need-same-length Inv-loop μ-loop
+same-length c = search needs
+
+returns : tie.Need-returns Inv-loop μ-loop
+returns c = search needs
+
+pub grid-spec : {M : Type 1} → statement M
+grid-spec =
+    tie.close
+    (tie.spec
+    Inv-loop
+    μ-loop
+    loop-holds
+    coordinate-requires
+    mul-list
+    slice-write-list
+    add-i
+    loop-less
+    loop-again
+    same-length
+    returns)

@@ -1,0 +1,331 @@
+// Boards built from lists of cells: one line for each call, with the call, what it answers, what the check says of the bitmap, and what is left where zeros must be.
+ghost use Prim.Native.Nat.{_^_, _≤_, _<_};
+use board::check::Checked;
+use board::check::check;
+use build::Built;
+use refusal::Refusal;
+
+fn say(text: &[u8]) {
+    io::write_all(1, text);
+}
+
+fn say_number(n: u32) {
+    io::print_decimal(1, n as u64);
+}
+
+fn say_size(n: usize) {
+    io::print_decimal(1, n as u64);
+}
+
+fn say_byte(b: u8) {
+    io::print_hex(1, b as u64, 2);
+}
+
+fn say_bytes(bytes: &[u8]) {
+    for i in 0..bytes.len() {
+        say(b" ");
+        say_byte(bytes[i]);
+    }
+}
+
+fn say_refused(refusal: Refusal) {
+    say(b"refused ");
+    say_number(refusal.number());
+}
+
+fn say_checked(answer: Checked) {
+    match answer {
+        Checked::Board { joints, boxes } => {
+            say_number(joints);
+            say(b" ");
+            say_number(boxes);
+        }
+        Checked::Refused(refusal) => say_refused(refusal),
+    }
+}
+
+fn wide(b: u8) -> u32
+    ensures { λ r. ⌜ r < 256 ⌝ }
+{
+    b as u32
+}
+
+// A sum that every byte and its place change.
+fn sum(bytes: &[u8]) -> u32 {
+    let mut total: u32 = 0;
+    for i in 0..bytes.len() {
+        total = (total * 31 + wide(bytes[i]) + 1) % 65521;
+    }
+    total
+}
+
+fn say_nonzero_words(list: &[u32]) {
+    let mut count: usize = 0;
+    for i in 0..list.len() {
+        if list[i] != 0 {
+            count += 1;
+        }
+    }
+    say_size(count);
+}
+
+fn say_nonzero_bytes(list: &[u8]) {
+    let mut count: usize = 0;
+    for i in 0..list.len() {
+        if list[i] != 0 {
+            count += 1;
+        }
+    }
+    say_size(count);
+}
+
+// The bytes in full where they are few, the check, and what is left behind them.
+fn say_bitmap(height: u32, bitmap: &[u8], length: usize) {
+    if bitmap.len() < length {
+        return;
+    }
+    let bytes = &bitmap[..length];
+    say(b" sum ");
+    say_number(sum(bytes));
+    if length < 9 {
+        say(b" =");
+        say_bytes(bytes);
+    }
+    say(b", check ");
+    say_checked(check(height, bytes));
+    say(b", behind ");
+    say_nonzero_bytes(&bitmap[length..]);
+}
+
+fn say_built(height: u32, bitmap: &[u8], answer: Built) {
+    match answer {
+        Built::Board {
+            joints,
+            boxes,
+            length,
+        } => {
+            say_number(joints);
+            say(b" joints ");
+            say_number(boxes);
+            say(b" boxes ");
+            say_number(length);
+            say(b" bytes");
+            say_bitmap(height, bitmap, length as usize);
+        }
+        Built::Refused(refusal) => {
+            say_refused(refusal);
+            say(b", left ");
+            say_nonzero_bytes(bitmap);
+        }
+    }
+}
+
+fn show(height: u32, rows: &[u32], columns: &[u32], work: &mut [u32], bitmap: &mut [u8]) {
+    say(b"build ");
+    say_number(height);
+    say(b" from ");
+    say_size(rows.len());
+    say(b" in ");
+    say_size(work.len());
+    say(b" ");
+    say_size(bitmap.len());
+    say(b": ");
+    let answer = build::build(height, rows, columns, work, bitmap);
+    say_built(height, bitmap, answer);
+    say(b", work ");
+    say_nonzero_words(work);
+    say(b"\n");
+}
+
+// Room for what is small. What is lent for writing begins with other numbers than zero, here and below.
+fn show_small(height: u32, rows: &[u32], columns: &[u32]) {
+    show(height, rows, columns, &mut [7; 9], &mut [7; 12]);
+}
+
+// Board A in several orders, and with doubles; one joint, four, and two far apart.
+fn show_sets() {
+    show_small(2, &[0, 1, 2, 3], &[1, 0, 3, 3]);
+    show_small(2, &[3, 2, 1, 0], &[3, 3, 0, 1]);
+    show_small(2, &[2, 0, 3, 1], &[3, 1, 3, 0]);
+    show_small(2, &[2, 0, 3, 1, 2, 2, 0], &[3, 1, 3, 0, 3, 3, 1]);
+    show_small(1, &[0, 0, 1, 1], &[0, 1, 0, 1]);
+    show_small(1, &[1, 1, 1], &[0, 0, 0]);
+    show_small(10, &[1023, 0], &[1023, 0]);
+}
+
+// No cells at all.
+fn show_nothing() {
+    for height in 1..11 {
+        show(height, &[], &[], &mut [], &mut [7; 2]);
+    }
+}
+
+// Every refusal, where it is tested among the others, and the edges of the room.
+fn show_refusals() {
+    show_small(0, &[0], &[]);
+    show_small(11, &[], &[]);
+    show_small(2, &[9], &[]);
+    show_small(2, &[0, 1], &[0]);
+    show_small(2, &[0, 4], &[0, 0]);
+    show_small(2, &[0, 0], &[0, 4]);
+    show(2, &[0, 0], &[4, 0], &mut [7; 1], &mut []);
+    show(2, &[1, 1], &[1, 1], &mut [7; 1], &mut [7; 2]);
+    show(2, &[1, 1], &[1, 1], &mut [7; 2], &mut [7; 2]);
+    show(2, &[0, 1, 2, 3], &[1, 0, 3, 3], &mut [7; 4], &mut [7; 1]);
+    show(2, &[0, 1, 2, 3], &[1, 0, 3, 3], &mut [7; 4], &mut [7; 2]);
+    show(2, &[0, 1, 2, 3], &[1, 0, 3, 3], &mut [7; 4], &mut [7; 3]);
+    show(1, &[], &[], &mut [], &mut []);
+}
+
+// The row or the column of a cell in lines of a width, 2^step apart, again from the first after a period.
+fn coordinate(i: usize, period: usize, width: u32, step: u32, column: bool) -> u32
+    requires { ⌜ (1 ≤ period) × (period ≤ 65536) × (1 ≤ width) × (step < 32) ⌝ }
+{
+    let cell = (i % period) as u32;
+    if column {
+        return (cell % width) << step;
+    }
+    (cell / width) << step
+}
+
+fn grid(list: &mut [u32], period: usize, width: u32, step: u32, column: bool)
+    requires { ⌜ (1 ≤ period) × (period ≤ 65536) × (1 ≤ width) × (step < 32) ⌝ }
+{
+    for i in 0..list.len() {
+        list[i] = coordinate(i, period, width, step, column);
+    }
+}
+
+fn show_full(height: u32, width: u32, rows: &mut [u32], columns: &mut [u32])
+    requires { ⌜ 1 ≤ width ⌝ }
+{
+    grid(rows, 65536, width, 0, false);
+    grid(columns, 65536, width, 0, true);
+    show(height, rows, columns, &mut [7; 1024], &mut [7; 200]);
+}
+
+// Full boards.
+fn show_fulls() {
+    show_full(1, 2, &mut [0; 4], &mut [0; 4]);
+    show_full(2, 4, &mut [0; 16], &mut [0; 16]);
+    show_full(3, 8, &mut [0; 64], &mut [0; 64]);
+    show_full(4, 16, &mut [0; 256], &mut [0; 256]);
+    show_full(5, 32, &mut [0; 1024], &mut [0; 1024]);
+}
+
+fn show_sixteenths(
+    rows: &mut [u32],
+    columns: &mut [u32],
+    period: usize,
+    step: u32,
+    work: &mut [u32],
+    bitmap: &mut [u8],
+)
+    requires { ⌜ (1 ≤ period) × (period ≤ 65536) × (step < 32) ⌝ }
+{
+    grid(rows, period, 64, step, false);
+    grid(columns, period, 64, step, true);
+    show(10, rows, columns, work, bitmap);
+}
+
+// The limits: 4,096 joints far apart need 8,875 bytes; one more is too many, and given twice they are no more.
+fn show_limits() {
+    show_sixteenths(
+        &mut [0; 4096],
+        &mut [0; 4096],
+        4096,
+        4,
+        &mut [7; 4096],
+        &mut [7; 8875],
+    );
+    show_sixteenths(
+        &mut [0; 4096],
+        &mut [0; 4096],
+        4096,
+        4,
+        &mut [7; 4096],
+        &mut [7; 8874],
+    );
+    show_sixteenths(
+        &mut [0; 4096],
+        &mut [0; 4096],
+        4096,
+        4,
+        &mut [7; 4095],
+        &mut [7; 8875],
+    );
+    show_sixteenths(
+        &mut [0; 8192],
+        &mut [0; 8192],
+        4096,
+        4,
+        &mut [7; 8192],
+        &mut [7; 9000],
+    );
+    show_sixteenths(
+        &mut [0; 4097],
+        &mut [0; 4097],
+        4097,
+        3,
+        &mut [7; 4097],
+        &mut [7; 9000],
+    );
+    show_sixteenths(
+        &mut [0; 4097],
+        &mut [0; 4097],
+        4097,
+        3,
+        &mut [7; 4096],
+        &mut [7; 9000],
+    );
+}
+
+// The next number of a generator.
+fn after(x: u32) -> u32
+    ensures { λ r. ⌜ r < 2 ^ 31 ⌝ }
+{
+    ((x as u64 * 1103515245 + 12345) % 2147483648) as u32
+}
+
+// Rows or columns of a board of a height, from a seed.
+fn scatter(list: &mut [u32], height: u32, seed: u32)
+    requires { ⌜ height ≤ 31 ⌝ }
+{
+    let mut x = seed;
+    for i in 0..list.len() {
+        x = after(x);
+        list[i] = x >> (31 - height);
+    }
+}
+
+fn show_scattered(height: u32, seed: u32, rows: &mut [u32], columns: &mut [u32])
+    requires { ⌜ (height ≤ 31) × (seed < 1000) ⌝ }
+{
+    scatter(rows, height, seed);
+    scatter(columns, height, seed + 5000);
+    show(height, rows, columns, &mut [7; 1500], &mut [7; 5000]);
+}
+
+// Cells at random, some of them more than once.
+fn show_three(height: u32)
+    requires { ⌜ height ≤ 31 ⌝ }
+{
+    show_scattered(height, height, &mut [0; 3], &mut [0; 3]);
+    show_scattered(height, height + 20, &mut [0; 40], &mut [0; 40]);
+    show_scattered(height, height + 40, &mut [0; 1500], &mut [0; 1500]);
+}
+
+fn show_random() {
+    for height in 1..11 {
+        show_three(height);
+    }
+}
+
+fn main() {
+    show_sets();
+    show_nothing();
+    show_refusals();
+    show_fulls();
+    show_limits();
+    show_random();
+}
