@@ -8,10 +8,10 @@ use native.Mathlib.Numerals.{add-one}
 use native.Mathlib.Nat.{sub-self, sub-zero, div-one, pow-zero, pow-suc, div-div-eq-div-mul, pow-le-pow-right}
 use lib.ListN.{length, getD, set, take, drop, length-map, length-set}
 use lib.Seq.{drop-cons, take-suc, set-at, append-snoc, length-take-le, take-all, drop-length}
-use borrow.Author.Tests.{lt-ltb, le-ltb}
 use Rattle.board.specs.Limits.{maxHeight}
 use Rattle.board.specs.Levels.{Box}
 use Rattle.board.specs.Code.{code, codeOf}
+use Rattle.board.specs.Member.{onBoard}
 use Rattle.board.proofs.Codes.{code-below}
 use Rattle.build.specs.Answers.{cellsOf, allOn}
 
@@ -66,21 +66,15 @@ pub tested-start : (h : ℕ) (rows columns : List ℕ) → Tested h rows columns
 tested-start h rows columns = record { high = omega arith; rest = refl }
 
 module _ {h : ℕ} {rows columns : List ℕ} {i : ℕ} (k : Tested h rows columns i) (e : length rows ≡ length columns) where
-  -- a row off the board
-  pub row-off : i < length rows → 2 ^ h ≤ getD rows i 0 → false ≡ allOn h (cellsOf rows columns)
+  -- a cell off the board
+  pub cell-off : i < length rows → onBoard h (getD rows i 0) (getD columns i 0) ≡ false → false ≡ allOn h (cellsOf rows columns)
   unfolding allOn
-  row-off lt off = rw (k .rest, cells-at rows columns i lt e, le-ltb (getD rows i 0) (2 ^ h) off)
-
-  -- a column off it
-  pub column-off : i < length rows → getD rows i 0 < 2 ^ h → 2 ^ h ≤ getD columns i 0 → false ≡ allOn h (cellsOf rows columns)
-  unfolding allOn
-  column-off lt on off = rw (k .rest, cells-at rows columns i lt e, lt-ltb (getD rows i 0) (2 ^ h) on, le-ltb (getD columns i 0) (2 ^ h) off)
+  cell-off lt off = rw (k .rest, cells-at rows columns i lt e, off)
 
   -- a cell on it
-  pub tested-step : i < length rows → getD rows i 0 < 2 ^ h → getD columns i 0 < 2 ^ h → Tested h rows columns (i + 1)
+  pub tested-step : i < length rows → onBoard h (getD rows i 0) (getD columns i 0) ≡ true → Tested h rows columns (i + 1)
   unfolding allOn
-  tested-step lt on also =
-      rw add-one (record { high = lt; rest = rw (k .rest, cells-at rows columns i lt e, lt-ltb (getD rows i 0) (2 ^ h) on, lt-ltb (getD columns i 0) (2 ^ h) also) })
+  tested-step lt on = rw add-one (record { high = lt; rest = rw (k .rest, cells-at rows columns i lt e, on) })
 
   -- all cells
   pub tested-end : length rows ≤ i → true ≡ allOn h (cellsOf rows columns)

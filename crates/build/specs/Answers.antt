@@ -1,13 +1,14 @@
 -- What building a board answers, in the order of document 01: 1, 20, 12, 10, 5, 18.
-use Prim.Native.Nat.{ℕ, _^_}
+use Prim.Native.Nat.{ℕ}
 use mathlib.Core.Bool.{Bool, true, _&&_}
 use mathlib.Core.List.{List, [], _∷_, map}
 use lib.ListN.{length}
-use lib.Dec.{leb, ltb, eqb}
+use lib.Dec.{leb, eqb}
 use Rattle.refusal.specs.Answer.{Answer, Served, _unless_, _then_}
 use Rattle.board.specs.Limits.{maxHeight, maxJoints}
 use Rattle.board.specs.Levels.{Box, groups}
 use Rattle.board.specs.Code.{codeOf}
+use Rattle.board.specs.Member.{onBoard}
 use Rattle.build.specs.Build.{onceEach, bitmapOfCodes}
 
 -- the cells of a row list and a column list, place by place
@@ -19,7 +20,7 @@ cellsOf (r ∷ rows) (c ∷ columns) = record { row = r; col = c } ∷ cellsOf r
 -- every cell is on the board
 unfoldable pub allOn : ℕ → List Box → Bool
 allOn h [] = true
-allOn h (b ∷ bs) = (ltb (b .row) (2 ^ h) && ltb (b .col) (2 ^ h)) && allOn h bs
+allOn h (b ∷ bs) = onBoard h (b .row) (b .col) && allOn h bs
 
 -- what is given can be built from: a height, as many rows as columns, cells on the board, and work room for all that are given
 unfoldable pub givenOf : ℕ → List ℕ → List ℕ → ℕ → Answer Bool

@@ -6,6 +6,7 @@ ghost use lib.ListN.{length, drop};
 ghost use Rattle.board.specs.Limits.{maxHeight};
 ghost use Rattle.board.specs.Code.{code as codeAt, codeOf};
 ghost use Rattle.build.specs.Answers.{cellsOf, allOn};
+use board::member::on_board;
 
 // The code of a cell: its quarters from the whole board down, as digits to base 4.
 pub fn code(height: u32, row: u32, column: u32) -> u32
@@ -26,13 +27,9 @@ pub fn all_on(height: u32, rows: &[u32], columns: &[u32]) -> bool
     requires { ⌜ (height ≤ maxHeight) × (length (now rows) ≡ length (now columns)) ⌝ }
     ensures { λ r. ⌜ r ≡ allOn height (cellsOf (now (rows .entry)) (now (columns .entry))) ⌝ }
 {
-    let side = board::side(height);
     let mut i = 0;
     while i < rows.len() {
-        if side <= rows[i] {
-            return false;
-        }
-        if side <= columns[i] {
+        if !on_board(height, rows[i], columns[i]) {
             return false;
         }
         i += 1;
