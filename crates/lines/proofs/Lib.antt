@@ -2,3 +2,4 @@ pub mod Digits
 pub mod Putting
 pub mod Inside
 pub mod Room
+pub mod Windows

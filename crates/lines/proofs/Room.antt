@@ -1,9 +1,9 @@
 -- How long lines are at most, for numbers of 32 bits: ten digits each.
 use Prim.Native.Nat.{ℕ, zero, suc, _+_, _*_, _^_, _≤_, _<_}
-use mathlib.Core.Path.{_≡_, ap}
-use mathlib.Core.List.{List, [], _∷_, _++_, flatMap}
+use mathlib.Core.Path.{_≡_}
+use mathlib.Core.List.{List, [], _∷_, flatMap}
 use native.Mathlib.Omega.{arith}
-use lib.ListN.{length, length-append, getD}
+use lib.ListN.{length, length-append, getD, take}
 use Rattle.lines.specs.Text.{Line, field, bytesOf, textOf}
 use Rattle.lines.specs.Lines.{inLine, inLines}
 use Rattle.lines.proofs.Digits.{length-decimal}
@@ -11,6 +11,26 @@ use Rattle.lines.proofs.Digits.{length-decimal}
 -- every number of a list has 32 bits
 abbrev pub Words : List ℕ → Type 0
 Words l = (i : ℕ) → getD l i 0 < 2 ^ 32
+
+-- a list of one, of two, of three
+pub one-word : (a : ℕ) → a < 2 ^ 32 → Words (a ∷ [])
+one-word a h zero = h
+one-word a h (suc i) = omega arith
+
+pub two-words : (a b : ℕ) → a < 2 ^ 32 → b < 2 ^ 32 → Words (a ∷ b ∷ [])
+two-words a b h k zero = h
+two-words a b h k (suc i) = one-word b k i
+
+pub three-words : (a b c : ℕ) → a < 2 ^ 32 → b < 2 ^ 32 → c < 2 ^ 32 → Words (a ∷ b ∷ c ∷ [])
+three-words a b c h k l zero = h
+three-words a b c h k l (suc i) = two-words b c k l i
+
+-- the beginning of a list
+pub words-take : (n : ℕ) (l : List ℕ) → Words l → Words (take n l)
+words-take zero l h i = omega arith
+words-take (suc n) [] h i = omega arith
+words-take (suc n) (x ∷ l) h zero = h 0
+words-take (suc n) (x ∷ l) h (suc i) = words-take n l (λ j. h (suc j)) i
 
 -- a number after a space
 pub field-short : (n : ℕ) → n < 2 ^ 32 → length (field n) ≤ 11
@@ -34,9 +54,4 @@ unfolding textOf inLines flatMap
 ins-short [] columns h k = omega arith
 ins-short (r ∷ rows) [] h k = omega arith
 ins-short (r ∷ rows) (c ∷ columns) h k =
-    rw length-append (omega (arith, line-short (inLine r c) (two r c (h 0) (k 0)), ins-short rows columns (λ i. h (suc i)) (λ i. k (suc i))))
-  where
-    two : (a b : ℕ) → a < 2 ^ 32 → b < 2 ^ 32 → Words (a ∷ b ∷ [])
-    two a b h k zero = h
-    two a b h k (suc zero) = k
-    two a b h k (suc (suc i)) = omega arith
+    rw length-append (omega (arith, line-short (inLine r c) (two-words r c (h 0) (k 0)), ins-short rows columns (λ i. h (suc i)) (λ i. k (suc i))))
