@@ -28,6 +28,26 @@ def bitmap(groups):
     return [int(bits[i:i + 8], 2) for i in range(0, len(bits), 8)]
 
 
+def in_order(cells, row, column, side):
+    """The cells of a box, quarter by quarter."""
+    if not cells:
+        return []
+    if side == 1:
+        return [(row, column)]
+    half = side // 2
+    out = []
+    for r, c in ((row, column), (row, column + half), (row + half, column), (row + half, column + half)):
+        out += in_order({p for p in cells if r <= p[0] < r + half and c <= p[1] < c + half}, r, c, half)
+    return out
+
+
+def total_of(numbers):
+    total = 0
+    for n in numbers:
+        total = (total * 31 + n + 1) % 65521
+    return total
+
+
 def answer(height, rows, columns, work, room):
     if not 1 <= height <= MAX_HEIGHT:
         return 1
@@ -44,7 +64,7 @@ def answer(height, rows, columns, work, room):
     found = bitmap(groups)
     if len(found) > room:
         return 18
-    return len(cells), len(groups), found
+    return cells, len(groups), found
 
 
 def show(height, rows, columns, work, room):
@@ -53,14 +73,18 @@ def show(height, rows, columns, work, room):
     if isinstance(a, int):
         line += f"refused {a}, left 0"
     else:
-        joints, boxes, found = a
-        total = 0
-        for b in found:
-            total = (total * 31 + b + 1) % 65521
-        line += f"{joints} joints {boxes} boxes {len(found)} bytes sum {total}"
+        cells, boxes, found = a
+        line += f"{len(cells)} joints {boxes} boxes {len(found)} bytes sum {total_of(found)}"
         if len(found) < 9:
             line += " =" + "".join(f" {b:02x}" for b in found)
-        line += f", check {joints} {boxes}, behind 0"
+        line += f", check {len(cells)} {boxes}"
+        listed = in_order(cells, 0, 0, 2 ** height)
+        zeros = [0] * (4096 - len(listed))
+        line += f", window {len(listed)} {total_of([r for r, c in listed] + zeros)} {total_of([c for r, c in listed] + zeros)}, members "
+        for i in range(6):
+            for c in (i, 1):
+                line += "-" if i >= 2 ** height else str(int((i, c) in cells))
+        line += ", behind 0"
     print(line + ", work 0")
 
 

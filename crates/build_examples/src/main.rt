@@ -1,7 +1,13 @@
-// Boards built from lists of cells: one line for each call, with the call, what it answers, what the check says of the bitmap, and what is left where zeros must be.
+// Boards built from lists of cells: one line for each call, with the call, what it answers, what the check, the window of the whole board and
+// membership say of the bitmap, and what is left where zeros must be.
 ghost use Prim.Native.Nat.{_^_, _≤_, _<_};
 use board::check::Checked;
 use board::check::check;
+use board::directory::make_directory;
+use board::member::Membership;
+use board::member::member;
+use board::window::Windowed;
+use board::window::window;
 use build::Built;
 use refusal::Refusal;
 
@@ -79,7 +85,68 @@ fn say_nonzero_bytes(list: &[u8]) {
     say_size(count);
 }
 
-// The bytes in full where they are few, the check, and what is left behind them.
+// A sum that every number and its place change.
+fn sum_of(list: &[u32]) -> u32 {
+    let mut total: u32 = 0;
+    for i in 0..list.len() {
+        total = (total * 31 + list[i] % 65521 + 1) % 65521;
+    }
+    total
+}
+
+// The cells of the whole board in bitmap order, and zeros behind them.
+fn say_window(height: u32, bytes: &[u8], directory: &[u16], rows: &mut [u32], columns: &mut [u32])
+    requires { ⌜ height < 32 ⌝ }
+{
+    say(b", window ");
+    let last = 2147483647 >> (31 - height);
+    match window(height, bytes, directory, 0, last, 0, last, rows, columns) {
+        Windowed::Cells(n) => say_number(n),
+        Windowed::Refused(refusal) => say_refused(refusal),
+    }
+    say(b" ");
+    say_number(sum_of(rows));
+    say(b" ");
+    say_number(sum_of(columns));
+}
+
+fn say_member(height: u32, bytes: &[u8], directory: &[u16], row: u32, column: u32) {
+    match member(height, bytes, directory, row, column) {
+        Membership::Stored => say(b"1"),
+        Membership::Absent => say(b"0"),
+        Membership::Refused(_) => say(b"-"),
+    }
+}
+
+// Whether cells of the diagonal and of column 1 are stored; those off the board are refused.
+fn say_members(height: u32, bytes: &[u8], directory: &[u16]) {
+    say(b", members ");
+    for i in 0..6 {
+        say_member(height, bytes, directory, i, i);
+        say_member(height, bytes, directory, i, 1);
+    }
+}
+
+// What is read back by the directory.
+fn say_read(height: u32, bytes: &[u8], directory: &mut [u16])
+    requires { ⌜ height < 32 ⌝ }
+{
+    make_directory(height, bytes, directory);
+    say_window(height, bytes, directory, &mut [7; 4096], &mut [7; 4096]);
+    say_members(height, bytes, directory);
+}
+
+// The directory's length is one number for each started block of 64 bytes.
+fn say_asked(height: u32, bytes: &[u8], space: &mut [u16])
+    requires { ⌜ height < 32 ⌝ }
+{
+    let blocks = (bytes.len() + 63) / 64;
+    if blocks <= space.len() {
+        say_read(height, bytes, &mut space[..blocks]);
+    }
+}
+
+// The bytes in full where they are few, what is read of them, and what is left behind them.
 fn say_bitmap(height: u32, bitmap: &[u8], length: usize) {
     if bitmap.len() < length {
         return;
@@ -93,6 +160,9 @@ fn say_bitmap(height: u32, bitmap: &[u8], length: usize) {
     }
     say(b", check ");
     say_checked(check(height, bytes));
+    if height < 11 {
+        say_asked(height, bytes, &mut [7; 140]);
+    }
     say(b", behind ");
     say_nonzero_bytes(&bitmap[length..]);
 }

@@ -46,6 +46,12 @@ check-requires c κs = search needs
 say-checked-requires : tie.Need-say-checked-requires
 say-checked-requires c κs = search needs
 
+slice-aggregate-say-asked : tie.Need-slice-aggregate-say-asked
+slice-aggregate-say-asked c = search needs
+
+say-asked-requires : tie.Need-say-asked-requires
+say-asked-requires c κs = search needs
+
 slice-aggregate-say-4 : tie.Need-slice-aggregate-say-4
 slice-aggregate-say-4 c = search needs
 
@@ -84,6 +90,8 @@ say-bitmap-spec =
     say-requires-3
     check-requires
     say-checked-requires
+    slice-aggregate-say-asked
+    say-asked-requires
     slice-aggregate-say-4
     say-requires-4
     sub-say-nonzero-bytes
