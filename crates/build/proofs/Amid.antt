@@ -99,9 +99,11 @@ module _ {gs : List ℕ} {s : ℕ} {p : List ℕ} {g child bits : ℕ} {bytes : 
   amid-end = amid-put
 
   module _ (c : ℕ) (r : Rising (p ++ c ∷ [])) where
+    -- the boxes of the cells seen and the next one rise
     rising-next : (t : ℕ) → Rising (boxesOf t (p ++ c ∷ []))
     rising-next t = rising-boxesOf t (p ++ c ∷ []) r
 
+    -- one cell more is seen
     longer : length (p ++ c ∷ []) ≡ length p + 1
     longer = length-append p (c ∷ [])
 
@@ -109,6 +111,7 @@ module _ {gs : List ℕ} {s : ℕ} {p : List ℕ} {g child bits : ℕ} {bytes : 
     fresh : (c / 4 ^ s ≡ child → ⊥) → boxesOf s (p ++ c ∷ []) ≡ boxesOf s p ++ c / 4 ^ s ∷ []
     fresh n = rw (m .seen) (boxes-new s (m .front) (m .last) c (λ q. n (sym q ∙ sym (m .here))))
 
+    -- and no box before it has it
     new-quarter : boxesOf s (p ++ c ∷ []) ≡ boxesOf s p ++ c / 4 ^ s ∷ [] → has (c / 4 ^ s) (boxesOf s p) ≡ 0
     new-quarter e0 = not-in _ _ (λ h. omega (arith, before-last (boxesOf s p) _ _ (rw e0 at (rising-next s)) h))
 

@@ -126,6 +126,7 @@ module _ {h : ℕ} {work : List ℕ} {n : ℕ} {m : List ℕ} {r : ℕ} (t : Tid
         answer : {a b c j k l : ℕ} → a ≡ j → b ≡ k → c ≡ l → _≡_ {A = Answer (List ℕ)} (Served (a ∷ b ∷ c ∷ [])) (Served (j ∷ k ∷ l ∷ []))
         answer p q s = cc
 
+-- the last test was passed
 last-passed : (n : ℕ) (t : Bool) {x : Bool} → (n unless t) ≡ Served x → t ≡ true
 last-passed n true e = refl
 last-passed n false {x} e = passed n false (Served x) {x = x} e .0
@@ -137,6 +138,7 @@ pub record Good (h : ℕ) (rows columns : List ℕ) (work : ℕ) : Type 0 where
   pub even : length rows ≡ length columns
   pub room : length rows ≤ work
 
+-- that is what it means that nothing refuses it
 pub given-good : (h : ℕ) (rows columns : List ℕ) (work : ℕ) → givenOf h rows columns work ≡ Served true → Good h rows columns work
 unfolding givenOf
 given-good h rows columns work e =

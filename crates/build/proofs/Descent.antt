@@ -73,16 +73,18 @@ unfolding groupsFrom boxesOf distinct
 none-below zero = refl
 none-below (suc s) = none-below s
 
+-- and the whole board's is zero
 one-group : (s : ℕ) → groupsFrom (suc s) (0 ∷ []) [] ≡ 0 ∷ []
 unfolding groupsFrom boxesOf distinct groupOf has
 one-group s = ap (λ (gs : List ℕ). 0 ∷ gs) (none-below s)
 
+-- written out, it is zeros
 blank : (n : ℕ) → fit n (pack (0 ∷ [])) ≡ replicate n 0
 unfolding fit pack
 blank zero = refl
 blank (suc n) = ap (λ (l : List ℕ). 0 ∷ l) (fit-none n)
 
--- and that group is zero
+-- so that an empty bitmap is the bitmap of no cells
 pub descent-none : (h : ℕ) (bitmap : List ℕ) → 1 ≤ h → bitmap ≡ replicate (length bitmap) 0 → Written (groupsFrom h (0 ∷ []) []) 1 bitmap
 descent-none zero bitmap low e = absurd (omega arith)
 descent-none (suc s) bitmap low e =

@@ -1,5 +1,5 @@
 -- One level of the bitmap, cell by cell: a cell more changes the last group, opens the next one, or changes nothing.
-use Prim.Native.Nat.{ℕ, _+_, _*_, _-_, _/_, _%_, _^_, _<_}
+use Prim.Native.Nat.{ℕ, zero, suc, _+_, _*_, _-_, _/_, _%_, _^_, _<_}
 use mathlib.Core.Path.{_≡_, refl, ap, _∙_}
 use mathlib.Core.List.{List, [], _∷_, _++_, map, map-append}
 use native.Mathlib.Omega.{arith}
@@ -7,7 +7,7 @@ use lib.Dec.{eqb}
 use borrow.Author.Tests.{eq-eqb, ne-eqb}
 use Rattle.order.specs.Order.{unless-first, distinct, has}
 use Rattle.order.specs.Bag.{same}
-use Rattle.order.proofs.Cases.{test-cases, same-cases}
+use Rattle.order.proofs.Cases.{test-cases, same-cases, same-self}
 use Rattle.order.proofs.Sets.{has-here, has-there, has-append-left, has-append-right}
 use Rattle.build.specs.Build.{boxesOf, groupOf}
 use Rattle.build.specs.Writing.{worth}
@@ -52,16 +52,22 @@ has-snoc z y ys e =
     (λ p q. rw (q, p) (has-append-right y ys (y ∷ []) e ∙ has-here y [] ∙ omega arith))
     (λ p q. rw q (has-append-left z ys (y ∷ []) (has-there z y [] p ∙ unfold has in refl) ∙ omega arith))
 
--- the four places of a quarter's code
+-- of the four places one is the quarter's
 one-place : (x y : ℕ) → y / 4 ≡ x → 8 * same (4 * x) y + 4 * same (4 * x + 1) y + 2 * same (4 * x + 2) y + same (4 * x + 3) y ≡ worth y
 one-place x y e = go (y % 4) (omega arith) (omega arith)
   where
+    hit : (z : ℕ) → z ≡ y → same z y ≡ 1
+    hit z e = rw e (same-self y)
+
+    miss : (z : ℕ) → (z ≡ y → ⊥) → same z y ≡ 0
+    miss z n = same-cases z y (λ e s. absurd (n e)) (λ d s. s)
+
     go : (q : ℕ) → q < 4 → y ≡ 4 * x + q → 8 * same (4 * x) y + 4 * same (4 * x + 1) y + 2 * same (4 * x + 2) y + same (4 * x + 3) y ≡ 2 ^ (3 - q)
-    go q k p =
-        same-cases (4 * x) y (λ a e0. same-cases (4 * x + 1) y (λ b e1. absurd (omega arith)) (λ b e1. same-cases (4 * x + 2) y (λ c e2. absurd (omega arith)) (λ c e2. same-cases (4 * x + 3) y (λ d e3. absurd (omega arith)) (λ d e3. let z : q ≡ 0 = omega arith in rw (e0, e1, e2, e3, z)))))
-        (λ a e0. same-cases (4 * x + 1) y (λ b e1. same-cases (4 * x + 2) y (λ c e2. absurd (omega arith)) (λ c e2. same-cases (4 * x + 3) y (λ d e3. absurd (omega arith)) (λ d e3. let z : q ≡ 1 = omega arith in rw (e0, e1, e2, e3, z))))
-        (λ b e1. same-cases (4 * x + 2) y (λ c e2. same-cases (4 * x + 3) y (λ d e3. absurd (omega arith)) (λ d e3. let z : q ≡ 2 = omega arith in rw (e0, e1, e2, e3, z)))
-        (λ c e2. same-cases (4 * x + 3) y (λ d e3. let z : q ≡ 3 = omega arith in rw (e0, e1, e2, e3, z)) (λ d e3. absurd (omega arith)))))
+    go zero k p = rw (hit (4 * x) (omega arith), miss (4 * x + 1) (omega arith), miss (4 * x + 2) (omega arith), miss (4 * x + 3) (omega arith))
+    go (suc zero) k p = rw (miss (4 * x) (omega arith), hit (4 * x + 1) (omega arith), miss (4 * x + 2) (omega arith), miss (4 * x + 3) (omega arith))
+    go (suc (suc zero)) k p = rw (miss (4 * x) (omega arith), miss (4 * x + 1) (omega arith), hit (4 * x + 2) (omega arith), miss (4 * x + 3) (omega arith))
+    go (suc (suc (suc zero))) k p = rw (miss (4 * x) (omega arith), miss (4 * x + 1) (omega arith), miss (4 * x + 2) (omega arith), hit (4 * x + 3) (omega arith))
+    go (suc (suc (suc (suc q)))) k p = absurd (omega arith)
 
 -- a new quarter adds its bit to its box's group
 pub groupOf-more : (ys : List ℕ) (x y : ℕ) → y / 4 ≡ x → has y ys ≡ 0 → groupOf (ys ++ y ∷ []) x ≡ groupOf ys x + worth y

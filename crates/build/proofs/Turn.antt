@@ -19,7 +19,7 @@ pub record Turn (first : ℕ) (bitmap₀ work : List ℕ) (n s i g child bits : 
   pub as-long : length bitmap ≡ length bitmap₀
   pub amid : (gs : List ℕ) → Written gs first bitmap₀ → Amid gs s (take i work) g child bits bitmap
 
--- the beginning of a rising list rises
+-- what is in the beginning of a list is in the list
 in-take : (k : ℕ) (l : List ℕ) (z : ℕ) → In z (take k l) → In z l
 in-take zero l z h = absurd (not-in-nil z h)
 in-take (suc k) [] z h = h
@@ -29,6 +29,7 @@ in-take (suc k) (x ∷ l) z h = go (in-take k l z) (in-cons z x (take k l) h)
     go f (inl e) = rw e (has-here x l)
     go f (inr m) = in-tail z x l (f m)
 
+-- the beginning of a rising list rises
 rising-take : (k : ℕ) (l : List ℕ) → Rising l → Rising (take k l)
 rising-take zero l r = tt
 rising-take (suc k) [] r = tt
@@ -56,9 +57,11 @@ module _ {first : ℕ} {bitmap₀ work : List ℕ} {n s i g child bits : ℕ} {b
     turn-byte room = amid-byte (t .amid (w .0) (w .1)) room
 
   module _ (le : n ≤ length work) (r : Rising (take n work)) (more : i < n) where
+    -- one code more is seen
     next-seen : take (i + 1) work ≡ take i work ++ getD work i 0 ∷ []
     next-seen = rw add-one (take-suc work i 0 (omega arith))
 
+    -- the codes seen and the next one rise
     rising-seen : Rising (take i work ++ getD work i 0 ∷ [])
     rising-seen = rw next-seen at (rw (take-take (i + 1) n work (omega arith)) at (rising-take (i + 1) (take n work) r))
 

@@ -212,11 +212,15 @@ fn show_small(height: u32, rows: &[u32], columns: &[u32]) {
     show(height, rows, columns, &mut [7; 9], &mut [7; 12]);
 }
 
-// Board A in several orders, and with doubles; one joint, four, and two far apart.
-fn show_sets() {
+// Board A in several orders.
+fn show_orders() {
     show_small(2, &[0, 1, 2, 3], &[1, 0, 3, 3]);
     show_small(2, &[3, 2, 1, 0], &[3, 3, 0, 1]);
     show_small(2, &[2, 0, 3, 1], &[3, 1, 3, 0]);
+}
+
+// The same with doubles, four joints, one, and two far apart.
+fn show_sets() {
     show_small(2, &[2, 0, 3, 1, 2, 2, 0], &[3, 1, 3, 0, 3, 3, 1]);
     show_small(1, &[0, 0, 1, 1], &[0, 1, 0, 1]);
     show_small(1, &[1, 1, 1], &[0, 0, 0]);
@@ -230,21 +234,33 @@ fn show_nothing() {
     }
 }
 
-// Every refusal, where it is tested among the others, and the edges of the room.
-fn show_refusals() {
+// The height comes before the lists' lengths, and those before the cells.
+fn show_lengths() {
     show_small(0, &[0], &[]);
     show_small(11, &[], &[]);
     show_small(2, &[9], &[]);
     show_small(2, &[0, 1], &[0]);
+}
+
+// The cells come before the room; doubles count for the work room.
+fn show_cells() {
     show_small(2, &[0, 4], &[0, 0]);
     show_small(2, &[0, 0], &[0, 4]);
     show(2, &[0, 0], &[4, 0], &mut [7; 1], &mut []);
     show(2, &[1, 1], &[1, 1], &mut [7; 1], &mut [7; 2]);
+}
+
+// The edges of the room.
+fn show_rooms() {
     show(2, &[1, 1], &[1, 1], &mut [7; 2], &mut [7; 2]);
-    show(2, &[0, 1, 2, 3], &[1, 0, 3, 3], &mut [7; 4], &mut [7; 1]);
-    show(2, &[0, 1, 2, 3], &[1, 0, 3, 3], &mut [7; 4], &mut [7; 2]);
-    show(2, &[0, 1, 2, 3], &[1, 0, 3, 3], &mut [7; 4], &mut [7; 3]);
+    show_a(&mut [7; 1]);
+    show_a(&mut [7; 2]);
+    show_a(&mut [7; 3]);
     show(1, &[], &[], &mut [], &mut []);
+}
+
+fn show_a(bitmap: &mut [u8]) {
+    show(2, &[0, 1, 2, 3], &[1, 0, 3, 3], &mut [7; 4], bitmap);
 }
 
 // The row or the column of a cell in lines of a width, 2^step apart, again from the first after a period.
@@ -298,7 +314,7 @@ fn show_sixteenths(
     show(10, rows, columns, work, bitmap);
 }
 
-// The limits: 4,096 joints far apart need 8,875 bytes; one more is too many, and given twice they are no more.
+// The limits: 4,096 joints far apart need 8,875 bytes.
 fn show_limits() {
     show_sixteenths(
         &mut [0; 4096],
@@ -324,6 +340,10 @@ fn show_limits() {
         &mut [7; 4095],
         &mut [7; 8875],
     );
+}
+
+// Given twice they are no more; one more is too many, which comes after the work room.
+fn show_more() {
     show_sixteenths(
         &mut [0; 8192],
         &mut [0; 8192],
@@ -392,10 +412,14 @@ fn show_random() {
 }
 
 fn main() {
+    show_orders();
     show_sets();
     show_nothing();
-    show_refusals();
+    show_lengths();
+    show_cells();
+    show_rooms();
     show_fulls();
     show_limits();
+    show_more();
     show_random();
 }
