@@ -1,8 +1,10 @@
 -- Places and corners as the code holds them.
 use Prim.Native.Nat.{ℕ, _+_, _*_, _^_, _≤_}
+use mathlib.Core.Bool.{Bool, _&&_}
 use mathlib.Core.Path.{_≡_}
 use mathlib.Core.List.{List}
 use lib.ListN.{length}
+use lib.Dec.{leb}
 use lib.IntN.{natAbs}
 use Rattle.board.specs.Limits.{maxHeight, maxPlace, maxSide}
 use Rattle.board.specs.Levels.{Box}
@@ -15,6 +17,10 @@ use Rattle.nearest.specs.declared.distance.Place.{Place}
 -- the place of a question
 abbrev pub placeOf : Place → near.Place
 placeOf p = record { row = p .row; col = p .column }
+
+-- whether a question may name it
+abbrev pub inRange : Place → Bool
+inRange p = leb (natAbs (p .row)) maxPlace && leb (natAbs (p .column)) maxPlace
 
 -- a question may name it
 pub record Named (p : Place) : Type 0 where
