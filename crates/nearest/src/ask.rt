@@ -1,0 +1,48 @@
+// A question is asked: tested, searched, and its number lists cleared. The keys of the joints found are left for the answer list.
+ghost use mathlib.Core.Path.{_≡_};
+ghost use lib.ListN.{length};
+ghost use Rattle.nearest.specs.Asked.{Asked};
+ghost use Rattle.nearest.specs.Promise.{jointsOf};
+use crate::distance::Place;
+use crate::find::find;
+use crate::gate::Gate;
+use crate::gate::may_ask;
+use refusal::Refusal;
+
+// The answer to a question: the joints found and the boxes opened, or a refusal.
+pub enum Nearest {
+    Found { joints: u32, boxes: u32 },
+    Refused(Refusal),
+}
+
+// How many joints were found.
+pub fn joints_of(r: Nearest) -> usize
+    ensures { λ n. ⌜ n ≡ jointsOf r ⌝ }
+{
+    match r {
+        Nearest::Found { joints, boxes: _ } => joints as usize,
+        Nearest::Refused(_) => 0,
+    }
+}
+
+// The question without its answer list, of which it takes the room alone.
+pub fn asked(height: u32, bytes: &[u8], directory: &[u16], p: Place, k: u32, answers: usize, keys: &mut [u64], corners: &mut [u32], trail: &mut [u32]) -> Nearest
+    ensures { λ r. ⌜ Asked height (now (bytes .entry)) (now (directory .entry)) p k answers (now (keys .entry)) (now (corners .entry)) (now (trail .entry)) r (now (keys .exit)) (now (corners .exit)) (now (trail .exit)) ⌝ }
+{
+    let g = may_ask(height, bytes, directory, p, k, answers, keys.len(), corners.len());
+    if let Gate::Shut(refusal) = g {
+        lent::clear_words(corners);
+        lent::clear_words(trail);
+        return Nearest::Refused(refusal);
+    }
+    let t = find(p, height, bytes, directory, k, keys, corners, trail);
+    lent::clear_words(corners);
+    if trail.len() < t.opened as usize {
+        lent::clear_words(trail);
+        return Nearest::Refused(Refusal::TrailRoom);
+    }
+    Nearest::Found {
+        joints: t.handed,
+        boxes: t.opened,
+    }
+}
