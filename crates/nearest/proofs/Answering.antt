@@ -63,9 +63,9 @@ put-more f i l₀ l l′ h s e =
     record {
       as-long = ap length e ∙ length-set l i (f i) ∙ s .as-long;
       done = λ k lt in-range. ap (λ (z : List Answer). getD z k zeroAnswer) e ∙ ⊎-elim
-      (λ (q : k ≡ i). rw q (getD-set-same l i (f i) zeroAnswer (omega (arith, s .as-long))))
-      (λ (lower : k < i). getD-set-other l i k (f i) zeroAnswer (λ q. omega arith) ∙ s .done k lower in-range)
-      (eq-or-lt-of-le {n = k} {m = i} (omega arith));
+          (λ (q : k ≡ i). rw q (getD-set-same l i (f i) zeroAnswer (omega (arith, s .as-long))))
+          (λ (lower : k < i). getD-set-other l i k (f i) zeroAnswer (λ q. omega arith) ∙ s .done k lower in-range)
+          (eq-or-lt-of-le {n = k} {m = i} (omega arith));
     }
 
 -- all: the list is filled
@@ -78,9 +78,12 @@ put-all n keys i l₀ l room h s =
   where
     found : List Answer
     found = map answerOf (handedIn n keys)
+
     zeros : List Answer
     zeros = replicate (length l₀ - length (handedIn n keys)) zeroAnswer
+
     long : length found + length zeros ≡ length l₀
     long = omega (arith, length-map (handedIn n keys) answerOf, length-handed n keys, length-replicate (length l₀ - length (handedIn n keys)) zeroAnswer)
+
     at : (k : ℕ) → getD found k zeroAnswer ≡ getD (found ++ zeros) k zeroAnswer
     at k = in-or-past found (length l₀ - length (handedIn n keys)) k

@@ -137,8 +137,8 @@ handed-small p h bytes k {n} {keys} named low room many same =
     record {
       room = room;
       small = λ i lt.
-      let e : getD (answerKeys (placeOf p) h bytes k) i 0 ≡ getD keys (length keys - suc i) 0 = ap (λ (l : List ℕ). getD l i 0) (sym same) ∙ handed-at n keys i lt in
-      omega (arith, rw e at (each-getD i 0 (answer-near (placeOf p) (named .row) (named .column) h bytes k low) (omega arith)));
+          let e : getD (answerKeys (placeOf p) h bytes k) i 0 ≡ getD keys (length keys - suc i) 0 = ap (λ (l : List ℕ). getD l i 0) (sym same) ∙ handed-at n keys i lt in
+          omega (arith, rw e at (each-getD i 0 (answer-near (placeOf p) (named .row) (named .column) h bytes k low) (omega arith)));
     }
 
 module _ {h : ℕ} {bytes d : List ℕ} {p : Place} {k answers : ℕ} {keys corners trailList : List ℕ} where

@@ -26,10 +26,29 @@ pub fn joints_of(r: Nearest) -> usize
 }
 
 // The question without its answer list, of which it takes the room alone.
-pub fn asked(height: u32, bytes: &[u8], directory: &[u16], p: Place, k: u32, answers: usize, keys: &mut [u64], corners: &mut [u32], trail: &mut [u32]) -> Nearest
+pub fn asked(
+    height: u32,
+    bytes: &[u8],
+    directory: &[u16],
+    p: Place,
+    k: u32,
+    answers: usize,
+    keys: &mut [u64],
+    corners: &mut [u32],
+    trail: &mut [u32],
+) -> Nearest
     ensures { λ r. ⌜ Asked height (now (bytes .entry)) (now (directory .entry)) p k answers (now (keys .entry)) (now (corners .entry)) (now (trail .entry)) r (now (keys .exit)) (now (corners .exit)) (now (trail .exit)) ⌝ }
 {
-    let g = may_ask(height, bytes, directory, p, k, answers, keys.len(), corners.len());
+    let g = may_ask(
+        height,
+        bytes,
+        directory,
+        p,
+        k,
+        answers,
+        keys.len(),
+        corners.len(),
+    );
     if let Gate::Shut(refusal) = g {
         lent::clear_words(corners);
         lent::clear_words(trail);

@@ -30,7 +30,16 @@ fn goes_on(t: Tally, k: u32, room: usize) -> bool
 }
 
 // Steps are taken from the whole board on, while a joint is wanted and something is pending.
-fn seek(start: Tally, p: Place, bytes: &[u8], directory: &[u16], k: u32, keys: &mut [u64], corners: &mut [u32], trail: &mut [u32]) -> Tally
+fn seek(
+    start: Tally,
+    p: Place,
+    bytes: &[u8],
+    directory: &[u16],
+    k: u32,
+    keys: &mut [u64],
+    corners: &mut [u32],
+    trail: &mut [u32],
+) -> Tally
     requires { ⌜ (Named p) × (Begins (placeOf p) (now bytes) (now directory) k start (now keys) (now corners) (now trail)) ⌝ }
     ensures { λ r. ⌜ ((b : Begins (placeOf p) (now (bytes .entry)) (now (directory .entry)) k start (now (keys .entry)) (now (corners .entry)) (now (trail .entry))) → Ends (placeOf p) (b .height) (now (bytes .entry)) k (length (now (trail .entry))) r (now (keys .exit)) (now (corners .exit)) (now (trail .exit)) (length (now (keys .entry))) (length (now (corners .entry)))) ⌝ }
 {
@@ -42,7 +51,16 @@ fn seek(start: Tally, p: Place, bytes: &[u8], directory: &[u16], k: u32, keys: &
 }
 
 // The search of a board that may be asked: the keys of the joints found stand at the end of the keys, the trail in its list.
-pub fn find(p: Place, height: u32, bytes: &[u8], directory: &[u16], k: u32, keys: &mut [u64], corners: &mut [u32], trail: &mut [u32]) -> Tally
+pub fn find(
+    p: Place,
+    height: u32,
+    bytes: &[u8],
+    directory: &[u16],
+    k: u32,
+    keys: &mut [u64],
+    corners: &mut [u32],
+    trail: &mut [u32],
+) -> Tally
     requires { ⌜ (Named p) × (Ready height (now bytes) (now directory)) × (0 < k) × (max 1 (length (joints height (now bytes))) ≤ length (now keys)) × (max 1 (length (joints height (now bytes))) ≤ length (now corners)) ⌝ }
     ensures { λ r. ⌜ Ends (placeOf p) height (now (bytes .entry)) k (length (now (trail .entry))) r (now (keys .exit)) (now (corners .exit)) (now (trail .exit)) (length (now (keys .entry))) (length (now (corners .entry))) ⌝ }
 {

@@ -31,7 +31,14 @@ fn work_for(joints: u32) -> usize
 }
 
 // The tests of the question itself, over a board of so many joints.
-fn question_passes(p: Place, k: u32, joints: u32, answers: usize, keys: usize, corners: usize) -> Gate
+fn question_passes(
+    p: Place,
+    k: u32,
+    joints: u32,
+    answers: usize,
+    keys: usize,
+    corners: usize,
+) -> Gate
     ensures { λ r. ⌜ passOf r ≡ roomOf p k (max 1 joints) (record { answers = answers; keys = keys; corners = corners; trail = 0 }) ⌝ }
 {
     if !is_named(p) {
@@ -57,12 +64,28 @@ fn question_passes(p: Place, k: u32, joints: u32, answers: usize, keys: usize, c
 }
 
 // The tests of the board and of the question.
-pub fn may_ask(height: u32, bytes: &[u8], directory: &[u16], p: Place, k: u32, answers: usize, keys: usize, corners: usize) -> Gate
+pub fn may_ask(
+    height: u32,
+    bytes: &[u8],
+    directory: &[u16],
+    p: Place,
+    k: u32,
+    answers: usize,
+    keys: usize,
+    corners: usize,
+) -> Gate
     ensures { λ r. ⌜ passOf r ≡ (checkOf height (now (bytes .entry)) then 6 unless alike (now (directory .entry)) (directoryOf (now (bytes .entry))) then roomOf p k (workFor height (now (bytes .entry))) (record { answers = answers; keys = keys; corners = corners; trail = 0 })) ⌝ }
 {
     let checked = ask(height, bytes, directory);
     match checked {
         Checked::Refused(refusal) => Gate::Shut(refusal),
-        Checked::Board { joints, boxes: _ } => question_passes(p, k, joints, answers, keys, corners),
+        Checked::Board { joints, boxes: _ } => question_passes(
+            p,
+            k,
+            joints,
+            answers,
+            keys,
+            corners,
+        ),
     }
 }

@@ -119,7 +119,7 @@ module _ {M : Type 1} (𝓤 : URA M) (H : Heap 𝓤) (A : Atoms 𝓤) (W : Given
   abbrev Post : Val → SProp 𝓤
   Post = walkOf 𝓤 H A put-f.ended stayed (put-f.clauses 𝓤 H A at-mem run) .post (((κ-0, tt), (q-0, tt), tt, a, vals), tt)
 
-  module _ (C : Calls 𝓤 H) (Λ : Loops 𝓤 H) (fm : FmC 𝓤 H (W .laws) C)  where
+  module _ (C : Calls 𝓤 H) (Λ : Loops 𝓤 H) (fm : FmC 𝓤 H (W .laws) C) where
     walk : ent 𝓤 (onEntry 𝓤 H A put-f.signature (κ-0, tt) (q-0, tt) a vals) (WpFn 𝓤 H C Λ code.function (sliceVal (b-list, o-list) (length v-list) ∷ vint w64 v-at ∷ mach-Answer v-a ∷ []) Post)
     walk =
         qed W ((‵ (flft κ-0 q-0) ⊛ ‵ ftrue) ∷ ‵ (owns (MutSlice (named 0) κ-0 R-Answer ∷ u64 ∷ R-Answer ∷ []) a vals) ∷ []) ∵
@@ -189,10 +189,10 @@ module _ {M : Type 1} (𝓤 : URA M) (H : Heap 𝓤) (A : Atoms 𝓤) (W : Given
         feqI ! (List Val) (vunit ∷ []) (vunit ∷ []) refl $ move ! (1 ∷ 0 ∷ []) $
         keep ! (0 ∷ 1 ∷ []) $ done !)))))))
 
-module _ {M : Type 1} (𝓤 : URA M) (H : Heap 𝓤) (A : Atoms 𝓤) (W : Given 𝓤 H A) (mem : Memory → SProp 𝓤) (run : Routine → Fun 𝓤) (𝓣 : Tables 𝓤 H)  where
+module _ {M : Type 1} (𝓤 : URA M) (H : Heap 𝓤) (A : Atoms 𝓤) (W : Given 𝓤 H A) (mem : Memory → SProp 𝓤) (run : Routine → Fun 𝓤) (𝓣 : Tables 𝓤 H) where
   put-walks : Walks 𝓤 H A put-f.ended stayed (WpFn 𝓤 H (𝓣 .C) (𝓣 .Λ) code.function) (put-f.clauses 𝓤 H A mem run)
   put-walks = walked 𝓤 H A put-f.ended stayed (put-f.clauses 𝓤 H A mem run) (WpFn 𝓤 H (𝓣 .C) (𝓣 .Λ) code.function) (λ κs. (slice-vals, (uint-vals w64, (LL.vals T-Answer.the-type L-Answer.the-laws, tt)))) (λ κs. (mut-slice-tells (named 0) (κs .0) R-Answer, (uint-tells w64, (LL.tells T-Answer.the-type L-Answer.the-laws, tt))))
-      (λ κs qs bounds a g are. needs 𝓤 (Needs-0 (a .0 .now) (a .1 .0) (a .1 .1 .0)) _ (λ need. walk 𝓤 H A W mem run (κs .0) (qs .0) (a .0 .ptr .0) (a .0 .ptr .1) (a .0 .name) (a .0 .now) (are .0 .0 .1) (a .1 .0) (are .1 .0 .1) (a .1 .1 .0) (are .1 .1 .0) need (𝓣 .C) (𝓣 .Λ) (fmOf 𝓤 H (W .laws) 𝓣) ))
+      (λ κs qs bounds a g are. needs 𝓤 (Needs-0 (a .0 .now) (a .1 .0) (a .1 .1 .0)) _ (λ need. walk 𝓤 H A W mem run (κs .0) (qs .0) (a .0 .ptr .0) (a .0 .ptr .1) (a .0 .name) (a .0 .now) (are .0 .0 .1) (a .1 .0) (are .1 .0 .1) (a .1 .1 .0) (are .1 .1 .0) need (𝓣 .C) (𝓣 .Λ) (fmOf 𝓤 H (W .laws) 𝓣)))
 
   put-meets : Meets 𝓤 H A put-f.signature (WpFn 𝓤 H (𝓣 .C) (𝓣 .Λ) code.function) (put-f.spec 𝓤 H A mem run)
   put-meets =

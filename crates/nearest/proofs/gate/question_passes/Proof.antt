@@ -32,15 +32,15 @@ returns c = let no : inRange (c .before .before .args .p) ≡ false = sym (c .be
 
 -- src/gate.rt:41:9
 returns-2 : tie.Need-returns-2
-returns-2 c = let yes : inRange (c .before .before .before .args .p) ≡ true = sym (c .before .before .is-named .ensures) ∙ on _ (c .before .if1 .left) in  rw (yes, lt-leb 1 (c .before .before .before .args .k) (omega arith)) refl
+returns-2 c = let yes : inRange (c .before .before .before .args .p) ≡ true = sym (c .before .before .is-named .ensures) ∙ on _ (c .before .if1 .left) in rw (yes, lt-leb 1 (c .before .before .before .args .k) (omega arith)) refl
 
 -- src/gate.rt:44:9
 returns-3 : tie.Need-returns-3
-returns-3 c = let yes : inRange (c .before .before .before .before .args .p) ≡ true = sym (c .before .before .before .is-named .ensures) ∙ on _ (c .before .before .if1 .left) in  rw (yes, le-leb 1 (c .before .before .before .before .args .k) (omega arith), lt-leb (c .before .before .before .before .args .k) 255 (omega arith)) refl
+returns-3 c = let yes : inRange (c .before .before .before .before .args .p) ≡ true = sym (c .before .before .before .is-named .ensures) ∙ on _ (c .before .before .if1 .left) in rw (yes, le-leb 1 (c .before .before .before .before .args .k) (omega arith), lt-leb (c .before .before .before .before .args .k) 255 (omega arith)) refl
 
 -- src/gate.rt:47:9
 returns-4 : tie.Need-returns-4
-returns-4 c = let yes : inRange (c .before .before .before .before .before .args .p) ≡ true = sym (c .before .before .before .before .is-named .ensures) ∙ on _ (c .before .before .before .if1 .left) in  let a = c .before .before .before .before .before .args in rw (yes, le-leb 1 (a .k) (omega arith), le-leb (a .k) 255 (omega arith), lt-leb (a .k) (a .answers) (omega arith)) refl
+returns-4 c = let yes : inRange (c .before .before .before .before .before .args .p) ≡ true = sym (c .before .before .before .before .is-named .ensures) ∙ on _ (c .before .before .before .if1 .left) in let a = c .before .before .before .before .before .args in rw (yes, le-leb 1 (a .k) (omega arith), le-leb (a .k) 255 (omega arith), lt-leb (a .k) (a .answers) (omega arith)) refl
 
 -- src/gate.rt:49:9
 work-for-requires : tie.Need-work-for-requires
@@ -48,15 +48,15 @@ work-for-requires c κs = search needs
 
 -- src/gate.rt:51:9
 returns-5 : tie.Need-returns-5
-returns-5 c = let yes : inRange (c .before .before .before .before .before .before .before .args .p) ≡ true = sym (c .before .before .before .before .before .before .is-named .ensures) ∙ on _ (c .before .before .before .before .before .if1 .left) in  let a = c .before .before .before .before .before .before .before .args in rw (yes, le-leb 1 (a .k) (omega arith), le-leb (a .k) 255 (omega arith), le-leb (a .k) (a .answers) (omega arith), lt-leb (max 1 (a .joints)) (a .keys) (omega arith)) refl
+returns-5 c = let yes : inRange (c .before .before .before .before .before .before .before .args .p) ≡ true = sym (c .before .before .before .before .before .before .is-named .ensures) ∙ on _ (c .before .before .before .before .before .if1 .left) in let a = c .before .before .before .before .before .before .before .args in rw (yes, le-leb 1 (a .k) (omega arith), le-leb (a .k) 255 (omega arith), le-leb (a .k) (a .answers) (omega arith), lt-leb (max 1 (a .joints)) (a .keys) (omega arith)) refl
 
 -- src/gate.rt:54:9
 returns-6 : tie.Need-returns-6
-returns-6 c = let yes : inRange (c .before .before .before .before .before .before .before .before .args .p) ≡ true = sym (c .before .before .before .before .before .before .before .is-named .ensures) ∙ on _ (c .before .before .before .before .before .before .if1 .left) in  let a = c .before .before .before .before .before .before .before .before .args in rw (yes, le-leb 1 (a .k) (omega arith), le-leb (a .k) 255 (omega arith), le-leb (a .k) (a .answers) (omega arith), le-leb (max 1 (a .joints)) (a .keys) (omega arith), lt-leb (max 1 (a .joints)) (a .corners) (omega arith)) refl
+returns-6 c = let yes : inRange (c .before .before .before .before .before .before .before .before .args .p) ≡ true = sym (c .before .before .before .before .before .before .before .is-named .ensures) ∙ on _ (c .before .before .before .before .before .before .if1 .left) in let a = c .before .before .before .before .before .before .before .before .args in rw (yes, le-leb 1 (a .k) (omega arith), le-leb (a .k) 255 (omega arith), le-leb (a .k) (a .answers) (omega arith), le-leb (max 1 (a .joints)) (a .keys) (omega arith), lt-leb (max 1 (a .joints)) (a .corners) (omega arith)) refl
 
 -- src/gate.rt:34:1
 returns-7 : tie.Need-returns-7
-returns-7 c = let yes : inRange (c .before .before .before .before .before .before .before .before .args .p) ≡ true = sym (c .before .before .before .before .before .before .before .is-named .ensures) ∙ on _ (c .before .before .before .before .before .before .if1 .left) in  let a = c .before .before .before .before .before .before .before .before .args in rw (yes, le-leb 1 (a .k) (omega arith), le-leb (a .k) 255 (omega arith), le-leb (a .k) (a .answers) (omega arith), le-leb (max 1 (a .joints)) (a .keys) (omega arith), le-leb (max 1 (a .joints)) (a .corners) (omega arith)) refl
+returns-7 c = let yes : inRange (c .before .before .before .before .before .before .before .before .args .p) ≡ true = sym (c .before .before .before .before .before .before .before .is-named .ensures) ∙ on _ (c .before .before .before .before .before .before .if1 .left) in let a = c .before .before .before .before .before .before .before .before .args in rw (yes, le-leb 1 (a .k) (omega arith), le-leb (a .k) 255 (omega arith), le-leb (a .k) (a .answers) (omega arith), le-leb (max 1 (a .joints)) (a .keys) (omega arith), le-leb (max 1 (a .joints)) (a .corners) (omega arith)) refl
 
 pub question-passes-spec : {M : Type 1} → statement M
 question-passes-spec =
