@@ -29,7 +29,7 @@ fn answer_of(key: u64) -> Answer
 
 // What goes to a place of the answer list: a joint's record, and zeros after the n handed out. (The keys are lent as they are to the
 // caller, for writing, and stay as they are.)
-pub fn pick(keys: &mut [u64], n: usize, at: usize) -> Answer
+pub(crate) fn pick(keys: &mut [u64], n: usize, at: usize) -> Answer
     requires { ⌜ Handed n (now keys) ⌝ }
     ensures { λ r. ⌜ (r ≡ getD (map answerOf (handedIn n (now (keys .entry)))) at zeroAnswer) × (now (keys .exit) ≡ now (keys .entry)) ⌝ }
 {
@@ -45,7 +45,7 @@ pub fn pick(keys: &mut [u64], n: usize, at: usize) -> Answer
 }
 
 // One record is stored.
-pub fn put(list: &mut [Answer], at: usize, a: Answer)
+pub(crate) fn put(list: &mut [Answer], at: usize, a: Answer)
     requires { ⌜ at < length (now list) ⌝ }
     ensures { λ _. ⌜ now (list .exit) ≡ set (now (list .entry)) at a ⌝ }
 {
@@ -53,7 +53,7 @@ pub fn put(list: &mut [Answer], at: usize, a: Answer)
 }
 
 // The n joints handed out are put into the answer list, and the rest of it is cleared.
-pub fn deliver(keys: &mut [u64], n: usize, list: &mut [Answer])
+pub(crate) fn deliver(keys: &mut [u64], n: usize, list: &mut [Answer])
     requires { ⌜ (Handed n (now keys)) × (n ≤ length (now list)) ⌝ }
     ensures { λ _. ⌜ (now (list .exit) ≡ filled (handedIn n (now (keys .entry))) (length (now (list .entry)))) × (now (keys .exit) ≡ now (keys .entry)) ⌝ }
 {

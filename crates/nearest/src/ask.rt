@@ -16,7 +16,7 @@ pub enum Nearest {
 }
 
 // How many joints were found.
-pub fn joints_of(r: Nearest) -> usize
+pub(crate) fn joints_of(r: Nearest) -> usize
     ensures { λ n. ⌜ n ≡ jointsOf r ⌝ }
 {
     match r {
@@ -26,7 +26,7 @@ pub fn joints_of(r: Nearest) -> usize
 }
 
 // The question without its answer list, of which it takes the room alone.
-pub fn asked(
+pub(crate) fn asked(
     height: u32,
     bytes: &[u8],
     directory: &[u16],

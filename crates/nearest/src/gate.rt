@@ -15,7 +15,7 @@ use refusal::Refusal;
 // The most joints that a question may ask for.
 const MAX_WANTED: u32 = 255;
 
-pub enum Gate {
+pub(crate) enum Gate {
     Open,
     Shut(Refusal),
 }
@@ -64,7 +64,7 @@ fn question_passes(
 }
 
 // The tests of the board and of the question.
-pub fn may_ask(
+pub(crate) fn may_ask(
     height: u32,
     bytes: &[u8],
     directory: &[u16],

@@ -22,7 +22,7 @@ use bitmap::GroupNo;
 const ROWS: u32 = 4096;
 
 // The entry of a box with so many levels at a corner; with none it is a joint.
-pub fn entered(p: Place, level: u32, g: GroupNo, row: u32, column: u32) -> Entry
+pub(crate) fn entered(p: Place, level: u32, g: GroupNo, row: u32, column: u32) -> Entry
     requires { ⌜ (Named p) × (Fits level row column) ⌝ }
     ensures { λ r. ⌜ ((b : Box) → Corner level row column b → Packs (placeOf p) level (g .0) b (r .key) (r .corner)) ⌝ }
 {
@@ -104,7 +104,7 @@ fn add_ones(
 }
 
 // A box is opened, whose quarters have so many levels: its ones become pending.
-pub fn open_box(
+pub(crate) fn open_box(
     p: Place,
     bytes: &[u8],
     directory: &[u16],

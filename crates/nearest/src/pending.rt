@@ -7,13 +7,13 @@ ghost use Rattle.search.specs.Entries.{pack};
 ghost use Rattle.nearest.specs.Pending.{Taken, Added};
 
 // An entry as the work lists hold it: its key, and of a box its levels and its corner.
-pub struct Entry {
+pub(crate) struct Entry {
     pub key: u64,
     pub corner: u32,
 }
 
 // The smallest of the pending entries leaves.
-pub fn take(keys: &mut [u64], corners: &mut [u32], pending: usize) -> Entry
+pub(crate) fn take(keys: &mut [u64], corners: &mut [u32], pending: usize) -> Entry
     requires { ⌜ (0 < pending) × (pending ≤ length (now keys)) × (pending ≤ length (now corners)) ⌝ }
     ensures { λ r. ⌜ Taken pending (now (keys .entry)) (now (corners .entry)) (r .key) (r .corner) (now (keys .exit)) (now (corners .exit)) ⌝ }
 {
@@ -27,7 +27,7 @@ pub fn take(keys: &mut [u64], corners: &mut [u32], pending: usize) -> Entry
 }
 
 // One more entry is pending.
-pub fn add(keys: &mut [u64], corners: &mut [u32], pending: usize, e: Entry)
+pub(crate) fn add(keys: &mut [u64], corners: &mut [u32], pending: usize, e: Entry)
     requires { ⌜ (pending < length (now keys)) × (pending < length (now corners)) ⌝ }
     ensures { λ _. ⌜ Added pending (pack (e .key) (e .corner) ∷ []) (now (keys .entry)) (now (corners .entry)) (now (keys .exit)) (now (corners .exit)) ⌝ }
 {

@@ -18,7 +18,7 @@ use crate::pending::Entry;
 use bitmap::GroupNo;
 
 // Kept through a question and changed as it goes: the boxes opened, the entries pending, the joints handed out.
-pub struct Tally {
+pub(crate) struct Tally {
     pub opened: u32,
     pub pending: u32,
     pub handed: u32,
@@ -74,7 +74,7 @@ fn open_entry(
 }
 
 // The work of a step, with the tally by value.
-pub fn step_core(
+pub(crate) fn step_core(
     t: Tally,
     p: Place,
     bytes: &[u8],
@@ -116,7 +116,7 @@ pub fn step_core(
 }
 
 // The step: the tally is lent, and changed.
-pub fn step(
+pub(crate) fn step(
     t: &mut Tally,
     p: Place,
     bytes: &[u8],
@@ -132,7 +132,7 @@ pub fn step(
 }
 
 // One turn of the search: a tally of its own is lent to the step.
-pub fn turn(
+pub(crate) fn turn(
     t: Tally,
     p: Place,
     bytes: &[u8],
