@@ -77,6 +77,11 @@ tally-small {p} {bytes} s =
     let few = groups-at-most (s .height) bytes (s .sound .valid) (s .sound .low) (s .sound .few) in
     (omega (arith, s .sound .few, s .sound .joints-are), omega (arith, few, s .sound .few, s .counted, board-entries p (s .height) bytes (served-groups (s .height) bytes (s .joints) (s .groups) (s .sound)) (s .underway .search)))
 
+-- what is pending and what is handed out have room
+pub pending-within : {p : Place} {bytes directory : List ℕ} {t : Tally} {ks cs : List ℕ} (s : Searching p bytes directory t ks cs) → t .pending + t .handed ≤ max 1 (s .joints)
+pending-within {p} {bytes} {t = t} {ks = ks} {cs = cs} s =
+    omega (arith, s .handed-out, served-room p (s .height) bytes (s .sound) (s .underway .search), length-map (pendingIn (t .pending) ks cs) entryIn, pending-long (t .pending) ks cs (s .in-keys) (s .in-corners))
+
 module _ (p : Place) (bytes directory : List ℕ) (t : Tally) (ks cs : List ℕ) (go : Goes p bytes directory t ks cs) {x c : ℕ} {ks′ cs′ : List ℕ} (tk : Taken (t .pending) ks cs x c ks′ cs′) where
   -- what leaves was pending
   pub was-there : 1 ≤ count (pack x c) (pendingIn (t .pending) ks cs)
@@ -85,12 +90,8 @@ module _ (p : Place) (bytes directory : List ℕ) (t : Tally) (ks cs : List ℕ)
   least : Each (λ y. x ≤ y / 2 ^ 32) (pendingIn (t .pending) ks cs)
   least = least-key (t .pending) ks cs x (go .searching .in-keys) (go .searching .in-corners) (tk .smallest)
 
-  -- what is pending and what is handed out have room
   held : t .pending + t .handed ≤ max 1 (go .searching .joints)
-  held =
-      let s = go .searching in
-      let pend = pendingIn (t .pending) ks cs in
-      omega (arith, s .handed-out, served-room p (s .height) bytes (s .sound) (s .underway .search), length-map pend entryIn, pending-long (t .pending) ks cs (s .in-keys) (s .in-corners))
+  held = pending-within (go .searching)
 
   -- what it opens to has room beside what stays
   pub step-room : t .handed + kindOf x + (length (kids bytes (entryOf x c)) + (t .pending - 1)) ≤ max 1 (go .searching .joints)
