@@ -1,10 +1,10 @@
 -- A question that is asked: from the tests that it passes and the search to its answer.
-use Prim.Native.Nat.{ℕ, suc, _-_, _^_, _≤_, _<_, max}
+use Prim.Native.Nat.{ℕ, suc, _-_, _≤_, _<_}
 use mathlib.Core.Bool.{Bool, true, false, _&&_}
 use mathlib.Core.Path.{_≡_, refl, sym, ap, _∙_}
 use mathlib.Core.List.{List, [], _∷_}
 use native.Mathlib.Omega.{arith}
-use lib.ListN.{length, getD, replicate, take}
+use lib.ListN.{length, getD, replicate}
 use lib.Dec.{leb}
 use lib.IntN.{natAbs}
 use borrow.Author.Tests.{leb-true, le-leb, lt-leb}
@@ -20,7 +20,6 @@ use Rattle.board.specs.Levels.{joints, groups}
 use Rattle.board.specs.Check.{checkOf, firstFault, faults, enough}
 use Rattle.board.specs.Ready.{Ready}
 use Rattle.board.proofs.Valid.{both, served-valid}
-use Rattle.search.specs.Keys.{distanceOf}
 use Rattle.search.specs.Question.{answerKeys, trail}
 use Rattle.search.proofs.Distances.{answer-near, answer-few}
 use Rattle.nearest.specs.declared.distance.Place.{Place}
@@ -28,9 +27,9 @@ use Rattle.nearest.specs.declared.step.Tally.{Tally}
 use Rattle.nearest.specs.declared.ask.Nearest.the-variants.{Found, Refused as Turned}
 use Rattle.nearest.specs.Places.{placeOf, inRange, Named}
 use Rattle.nearest.specs.Step.{handedIn}
-use Rattle.nearest.specs.Search.{Ends, Reached}
+use Rattle.nearest.specs.Search.{Reached}
 use Rattle.nearest.specs.Answers.{Handed}
-use Rattle.nearest.specs.Promise.{maxWanted, Rooms, workFor, roomOf, nearestOf, foundIn}
+use Rattle.nearest.specs.Promise.{maxWanted, Rooms, workFor, roomOf, nearestOf}
 use Rattle.nearest.specs.Asked.{roomsOf, Asked}
 use Rattle.nearest.proofs.Answering.{handed-at}
 

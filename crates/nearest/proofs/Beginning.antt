@@ -3,13 +3,13 @@ use Prim.Native.Nat.{ℕ, zero, suc, _+_, _^_, _≤_, _<_, max}
 use mathlib.Core.Path.{_≡_, refl, ap, ap₂, _∙_}
 use mathlib.Core.List.{List, [], _∷_}
 use native.Mathlib.Omega.{arith}
-use native.Mathlib.Nat.{zero-add, zero-mul}
+use native.Mathlib.Nat.{zero-mul}
 use lib.ListN.{length, replicate, length-replicate}
 use lib.Pow.{pow-mono}
-use Rattle.order.specs.Bag.{same, count}
+use Rattle.order.specs.Bag.{count}
 use Rattle.order.proofs.Cases.{same-self, same-cases}
 use Rattle.board.specs.Limits.{maxHeight, maxSide}
-use Rattle.board.specs.Levels.{Box, root, joints}
+use Rattle.board.specs.Levels.{root, joints}
 use Rattle.board.specs.Ready.{Ready}
 use Rattle.board.specs.Kids.{entryAt, whole-board}
 use Rattle.board.proofs.Bounds.{side-is}

@@ -1,35 +1,33 @@
 -- The search on the work lists, from its beginning through its steps to its end.
 use Prim.Native.Nat.{ℕ, zero, suc, _+_, _-_, _≤_, _<_, max}
-use mathlib.Core.Path.{_≡_, refl, sym, ap, ap₂, _∙_}
+use mathlib.Core.Path.{_≡_, refl, sym, ap, _∙_}
 use mathlib.Core.Logic.{_⊎_, inl, inr, ⊎-elim}
-use mathlib.Core.List.{List, [], _∷_, _++_, map, map-append, append-nil, append-assoc}
+use mathlib.Core.List.{List, [], _∷_, _++_, map, map-append}
 use native.Mathlib.Omega.{arith}
 use native.Mathlib.Nat.{add-zero, sub-zero}
 use lib.ListN.{length, replicate, length-append, length-map, length-replicate}
 use Rattle.order.specs.Order.{keep}
 use Rattle.order.specs.Bag.{same, count}
 use Rattle.order.proofs.Cases.{same-self}
-use Rattle.order.proofs.Total.{total, total-one, adds, length-adds, adds-is}
+use Rattle.order.proofs.Total.{total, total-one, adds, length-adds}
 use Rattle.order.proofs.Sorted.{total-bag}
 use Rattle.order.proofs.Keep.{keep-append}
 use Rattle.board.specs.Levels.{joints, groups}
 use Rattle.board.specs.Ready.{Ready}
-use Rattle.board.specs.Kids.{kids, whole-board}
 use Rattle.board.proofs.Valid.{Sound}
 use Rattle.board.proofs.Bounds.{served-groups, served-height}
 use Rattle.search.specs.Near.{Place}
-use Rattle.search.specs.Keys.{kindOf, idOf, isBox, isJoint}
-use Rattle.search.specs.Entries.{entryOf, entryIn, pack, packOf}
-use Rattle.search.specs.Question.{answerKeys, trail}
+use Rattle.search.specs.Keys.{idOf, isBox, isJoint}
+use Rattle.search.specs.Entries.{entryIn, pack}
+use Rattle.search.specs.Question.{trail}
 use Rattle.search.proofs.Visit.{jointsIn, joints-kept, boxes-kept}
 use Rattle.search.proofs.Board.{served-answer, served-trail, served-room, board-entries, trail-begun}
 use Rattle.search.proofs.Underway.{Underway, underway-start}
 use Rattle.search.proofs.Boxes.{pending-next, pending-room}
 use Rattle.nearest.specs.declared.step.Tally.{Tally}
-use Rattle.nearest.specs.Pending.{packed, pendingIn}
-use Rattle.nearest.specs.Step.{handedIn, Searching, Goes, Stepped}
+use Rattle.nearest.specs.Pending.{pendingIn}
+use Rattle.nearest.specs.Step.{handedIn, Goes, Stepped}
 use Rattle.nearest.specs.Search.{Begins, Reached, Ends}
-use Rattle.nearest.proofs.Lists.{packed-long}
 use Rattle.nearest.proofs.Steps.{pending-long, least-key}
 
 -- a board that may be asked is sound

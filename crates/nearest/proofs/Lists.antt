@@ -3,16 +3,16 @@ use Prim.Native.Nat.{ℕ, zero, suc, _+_, _-_, _^_, _≤_, _<_}
 use mathlib.Core.Path.{_≡_, refl, ap, _∙_}
 use mathlib.Core.List.{List, [], _∷_, _++_}
 use native.Mathlib.Omega.{arith}
-use native.Mathlib.Nat.{add-zero, add-assoc}
+use native.Mathlib.Nat.{add-zero}
 use native.Mathlib.Numerals.{add-one}
-use lib.ListN.{length, getD, set, take, length-set, length-append}
+use lib.ListN.{length, getD, set, length-set, length-append}
 use lib.Seq.{getD-set-other}
 use Rattle.order.specs.Order.{LeastAt}
 use Rattle.order.specs.Bag.{same, count}
 use Rattle.order.proofs.Total.{total, total-remove, total-add}
 use Rattle.order.proofs.Bag.{count-total, count-append}
 use Rattle.search.specs.Entries.{pack}
-use Rattle.nearest.specs.Pending.{packed, pendingIn, Taken, Added}
+use Rattle.nearest.specs.Pending.{packed, Taken, Added}
 
 -- as many entries as both lists have places
 pub packed-long : (n : ℕ) (ks cs : List ℕ) → n ≤ length ks → n ≤ length cs → n ≤ length (packed ks cs)

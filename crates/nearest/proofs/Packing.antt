@@ -1,17 +1,16 @@
 -- What the code packs into an entry is the entry's key and corner.
-use Prim.Native.Nat.{ℕ, zero, suc, _+_, _*_, _^_, _≤_, _<_}
-use mathlib.Core.Path.{_≡_, refl, sym, ap, _∙_}
+use Prim.Native.Nat.{ℕ, zero, suc, _+_, _*_, _^_, _<_}
+use mathlib.Core.Path.{_≡_, refl}
 use mathlib.Core.List.{List, [], _∷_, map}
 use native.Mathlib.Omega.{arith}
 use native.Mathlib.Nat.{mul-one}
-use lib.Pow.{pow-mono}
-use Rattle.board.specs.Limits.{maxHeight, maxSide}
+use Rattle.board.specs.Limits.{maxHeight}
 use Rattle.board.specs.Levels.{Box}
 use Rattle.board.specs.Under.{if-one}
-use Rattle.board.specs.Kids.{entryAt, entry}
+use Rattle.board.specs.Kids.{entry}
 use Rattle.search.specs.Near.{Place, near, nearAt}
-use Rattle.search.specs.Keys.{key, cellId, jointKey, boxKey, keyAt, keyOf}
-use Rattle.search.specs.Entries.{cornerAt, cornerOf, packOf, pack}
+use Rattle.search.specs.Keys.{key, cellId, jointKey, boxKey, keyAt}
+use Rattle.search.specs.Entries.{cornerAt, packOf, pack}
 use Rattle.nearest.specs.Places.{Fits, Corner, Packs}
 use Rattle.nearest.specs.Pending.{Added}
 use Rattle.nearest.proofs.Lists.{added-none}

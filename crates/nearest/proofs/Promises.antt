@@ -1,11 +1,10 @@
 -- What the promise of a question comes to: it determines; what is pending has room; a trail that is too long is refused exactly then; and
 -- near distances are what document 01 says of them.
-use Prim.Native.Nat.{ℕ, suc, _+_, _*_, _-_, _^_, _≤_, _<_, max}
+use Prim.Native.Nat.{ℕ, _+_, _*_, _≤_, _<_, max}
 use mathlib.Core.Bool.{true}
 use mathlib.Core.Logic.{_↔_}
-use mathlib.Core.Path.{_≡_, refl, sym, ap, _∙_}
-use mathlib.Core.List.{List, [], _∷_}
-use native.Mathlib.Omega.{arith}
+use mathlib.Core.Path.{_≡_, sym, ap, _∙_}
+use mathlib.Core.List.{List}
 use lib.ListN.{length}
 use lib.IntN.{natAbs}
 use Rattle.refusal.specs.Numbers.{numberOf}
@@ -59,9 +58,10 @@ pending-has-room s = pending-within s
 -- a question that passes every other test is refused by 11 exactly when its trail is longer than the trail list
 pub eleven-exactly : (h : ℕ) (bytes d : List ℕ) (p : question.Place) (k : ℕ) (r : Rooms) → passOf′ h bytes d p k r ≡ Served true
     → (nearestOf h bytes d p k r ≡ Refused 11) ↔ (r .trail < length (trail (placeOf p) h bytes k))
-eleven-exactly h bytes d p k r e =
-    (λ refused. leb-cases (length (trail (placeOf p) h bytes k)) (r .trail) (λ fits t. absurd (not-both (sym refused ∙ served-fits h bytes d p k r e fits))) (λ more t. more),
-    refused-short h bytes d p k r e)
+eleven-exactly h bytes d p k r e = (
+  λ refused. leb-cases (length (trail (placeOf p) h bytes k)) (r .trail) (λ fits t. absurd (not-both (sym refused ∙ served-fits h bytes d p k r e fits))) (λ more t. more),
+  refused-short h bytes d p k r e,
+)
 
 -- a box's near distance is at most the squared distance to each of its cells, and some cell of it is at that distance
 pub near-is-least : (p : Place) (s : ℕ) (b : Box) → 0 < s → ((c : Box) → Within s c b → near p s b ≤ near p 1 c) × ((c : Box) × Within s c b × (near p 1 c ≡ near p s b))

@@ -1,15 +1,15 @@
 -- A step on the work lists: from what was taken, what it says of the search.
-use Prim.Native.Nat.{ℕ, zero, suc, _+_, _*_, _-_, _/_, _%_, _^_, _≤_, _<_, max}
+use Prim.Native.Nat.{ℕ, zero, suc, _+_, _-_, _/_, _^_, _≤_, _<_, max}
 use mathlib.Core.Bool.{Bool, true, false}
 use mathlib.Core.Path.{_≡_, refl, sym, ap, _∙_}
 use mathlib.Core.List.{List, [], _∷_, _++_, map, append-nil}
 use native.Mathlib.Omega.{arith}
-use lib.ListN.{length, getD, set, take, length-set, length-map}
-use lib.Seq.{getD-set-same, getD-set-other, getD-take, length-take-le, take-set-le}
+use lib.ListN.{length, getD, set, length-set, length-map}
+use lib.Seq.{getD-set-same, getD-set-other, getD-take, length-take-le}
 use lib.Dec.{eqb}
 use borrow.Author.Tests.{eq-eqb, ne-eqb, eqb-true, eqb-false}
 use Rattle.order.specs.Order.{keep}
-use Rattle.order.specs.Bag.{same, count}
+use Rattle.order.specs.Bag.{count}
 use Rattle.order.proofs.Cases.{same-self}
 use Rattle.order.proofs.Total.{adds}
 use Rattle.order.proofs.Bag.{Each, each-index}

@@ -2,8 +2,6 @@
 use Prim.Native.Nat.{ℕ, _+_, _*_, _^_, _≤_}
 use mathlib.Core.Bool.{Bool, _&&_}
 use mathlib.Core.Path.{_≡_}
-use mathlib.Core.List.{List}
-use lib.ListN.{length}
 use lib.Dec.{leb}
 use lib.IntN.{natAbs}
 use Rattle.board.specs.Limits.{maxHeight, maxPlace, maxSide}

@@ -1,12 +1,12 @@
 -- What a question is answered, in the paper's numbers and order, and what it leaves in the lists lent to it.
 use Prim.Native.Nat.{ℕ, max}
-use mathlib.Core.Bool.{Bool, true, false, _&&_}
+use mathlib.Core.Bool.{Bool, true, _&&_}
 use mathlib.Core.List.{List, [], _∷_}
 use mathlib.Core.Path.{_≡_}
-use lib.ListN.{length, replicate}
+use lib.ListN.{length}
 use lib.Dec.{leb}
 use Rattle.refusal.specs.Numbers.{numberOf}
-use Rattle.refusal.specs.Answer.{Answer, Served, Refused, _unless_, _then_, leftIn}
+use Rattle.refusal.specs.Answer.{Answer, Served, Refused, _unless_, _then_}
 use Rattle.bitmap.specs.Directory.{directoryOf, alike}
 use Rattle.board.specs.Levels.{joints}
 use Rattle.board.specs.Check.{checkOf}
@@ -18,7 +18,6 @@ use Rattle.nearest.specs.declared.gate.Gate.the-variants.{Open, Shut}
 use Rattle.nearest.specs.declared.ask.Nearest.{Nearest}
 use Rattle.nearest.specs.declared.ask.Nearest.the-variants.{Found, Refused as Turned}
 use Rattle.nearest.specs.Places.{placeOf, inRange}
-use Rattle.nearest.specs.Answers.{filled}
 
 -- the most joints that a question may ask for
 abbrev pub maxWanted : ℕ

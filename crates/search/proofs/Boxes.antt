@@ -7,7 +7,6 @@ use native.Mathlib.Nat.{mul-le-mul-right, suc-mul}
 use lib.ListN.{length, length-append, length-map}
 use lib.Pow.{pow-mono, pow-add}
 use Rattle.order.specs.Bag.{same, count}
-use Rattle.order.proofs.Cases.{same-self}
 use Rattle.order.proofs.Total.{total, total-append}
 use Rattle.order.proofs.Bag.{Each, count-append}
 use Rattle.bitmap.specs.Bits.{groupAt, onesOf}
@@ -27,7 +26,7 @@ use Rattle.search.proofs.Visit.{jointsIn}
 use Rattle.search.proofs.Board.{OnBoard, served-room}
 use Rattle.search.proofs.Entries.{corner-small, corner-says}
 use Rattle.search.proofs.Quarters.{length-kids-to, kids-to-all, ones-to-all}
-use Rattle.search.proofs.Underway.{Underway, on-board, underway-step, pack-parts, corner-fits, Entered}
+use Rattle.search.proofs.Underway.{Underway, on-board, underway-step, pack-parts, corner-fits}
 
 -- of a box's key and corner: its quarters have so many levels, and it is the entry e
 pub record BoxIs (bytes : List ℕ) (x c : ℕ) (e : Entry) (level : ℕ) : Type 0 where

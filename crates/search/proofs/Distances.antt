@@ -3,20 +3,20 @@ use Prim.Native.Nat.{ℕ, _*_, _^_, _≤_, _<_}
 use mathlib.Core.Path.{_≡_}
 use mathlib.Core.List.{List, map}
 use native.Mathlib.Omega.{arith}
-use lib.ListN.{length, take, length-take}
+use lib.ListN.{length, length-take}
 use lib.IntN.{natAbs}
 use lib.Pow.{pow-mono}
 use Rattle.order.specs.Order.{sort}
-use Rattle.order.proofs.Total.{All, all-map}
+use Rattle.order.proofs.Total.{all-map}
 use Rattle.order.proofs.Bag.{Each, each-fewer, count-sort, count-take-le}
 use Rattle.board.specs.Limits.{maxHeight, maxPlace, maxSide}
 use Rattle.board.specs.Levels.{Box, joints}
-use Rattle.board.proofs.Under.{Small, joints-on-board}
+use Rattle.board.proofs.Under.{joints-on-board}
 use Rattle.board.proofs.Bounds.{side-is}
-use Rattle.search.specs.Near.{Place, near, nearAt}
+use Rattle.search.specs.Near.{Place, near}
 use Rattle.search.specs.Keys.{jointKey, distanceOf}
 use Rattle.search.specs.Question.{jointKeys, answerKeys}
-use Rattle.search.proofs.Near.{farthest, near-at-most, farthest-now}
+use Rattle.search.proofs.Near.{near-at-most, farthest-now}
 use Rattle.search.proofs.Keys.{joint-says}
 use Rattle.search.proofs.Underway.{all-numbers}
 

@@ -1,14 +1,13 @@
 -- A search whose pending entries are kept as a bag of numbers: what is known of it at any time, and that a step keeps it.
-use Prim.Native.Nat.{ℕ, zero, suc, _+_, _*_, _/_, _%_, _^_, _≤_, _<_}
+use Prim.Native.Nat.{ℕ, zero, suc, _+_, _/_, _%_, _^_, _≤_, _<_}
 use mathlib.Core.Path.{_≡_, refl, sym, ap, _∙_}
 use mathlib.Core.List.{List, [], _∷_, _++_, map}
 use native.Mathlib.Omega.{arith}
-use native.Mathlib.Nat.{one-le-pow}
 use Rattle.order.specs.Bag.{same, count}
-use Rattle.order.proofs.Cases.{leb-cases, same-self}
+use Rattle.order.proofs.Cases.{same-self}
 use Rattle.order.proofs.Total.{All, all-nil, all-cons, all-map, total, total-map, total-append, total-agree}
 use Rattle.order.proofs.Bag.{Each, each, each-nil, each-cons, each-head, each-tail, each-fewer, each-append, count-append}
-use Rattle.order.proofs.Sorted.{SameBag, total-bag}
+use Rattle.order.proofs.Sorted.{total-bag}
 use Rattle.board.specs.Levels.{Box, groups}
 use Rattle.board.specs.Kids.{Entry, whole-board, kids}
 use Rattle.board.proofs.Under.{stands-small}

@@ -6,38 +6,28 @@ use Prim.Native.Nat.{suc, _-_}
 use borrow.Author.Needs.{needs}
 use Rattle.nearest.proofs.answer.pick.Statement.{statement}
 use Rattle.nearest.proofs.answer.pick.Tie as tie
-use Rattle.nearest.proofs.answer.pick.Reads as reads
-use Rattle.nearest.proofs.answer.pick.Lts as lts
-use Rattle.nearest.proofs.answer.answer_of.Reads as answer-of-reads
 
--- src/answer.rt:37:21
 sub-place : tie.Need-sub-place
 sub-place c = search needs
 
--- src/answer.rt:37:21
 sub-place-2 : tie.Need-sub-place-2
 sub-place-2 c = search needs
 
--- src/answer.rt:38:26
 mul-answer-of : tie.Need-mul-answer-of
 mul-answer-of c = search needs
 
--- src/answer.rt:38:26
 slice-read-answer-of : tie.Need-slice-read-answer-of
 slice-read-answer-of c = search needs
 
--- src/answer.rt:38:9
 answer-of-requires : tie.Need-answer-of-requires
 answer-of-requires c κs = let e : length (c .before .before .before .args .keys .now) - 1 - c .before .before .before .args .at ≡ length (c .before .before .before .args .keys .now) - suc (c .before .before .before .args .at) = omega arith in rw e (c .before .before .before .pre .small (c .before .before .before .args .at) (c .before .if1 .taken))
 
--- src/answer.rt:38:9
 returns : tie.Need-returns
 returns c = let keys = c .before .before .before .before .args .keys .now in
     let at = c .before .before .before .before .args .at in
     let e : length keys - 1 - at ≡ length keys - suc at = omega arith in
     (rw e at (c .answer-of .ensures) ∙ picked (c .before .before .before .before .args .n) keys at (c .before .before .if1 .taken), refl)
 
--- src/answer.rt:32:1
 returns-2 : tie.Need-returns-2
 returns-2 c = (not-picked (c .before .before .args .n) (c .before .before .args .keys .now) (c .before .before .args .at) (c .if1 .left), refl)
 

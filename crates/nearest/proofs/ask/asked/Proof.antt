@@ -6,37 +6,25 @@ use mathlib.Core.Path.{refl, sym, ap, _∙_}
 use borrow.Author.Needs.{needs}
 use Rattle.nearest.proofs.ask.asked.Statement.{statement}
 use Rattle.nearest.proofs.ask.asked.Tie as tie
-use Rattle.nearest.proofs.ask.asked.Reads as reads
-use Rattle.nearest.proofs.ask.asked.Lts as lts
-use Rattle.lent.proofs.clear_words.Reads as clear-words-reads
-use Rattle.nearest.proofs.find.find.Reads as find-reads
-use Rattle.nearest.proofs.gate.may_ask.Reads as may-ask-reads
 
--- src/ask.rt:32:9
 may-ask-requires : tie.Need-may-ask-requires
 may-ask-requires c κs = search needs
 
--- src/ask.rt:33:23
 enum-known-g : tie.Need-enum-known-g
 enum-known-g c = search needs
 
--- src/ask.rt:34:9
 clear-words-requires : tie.Need-clear-words-requires
 clear-words-requires c κs = search needs
 
--- src/ask.rt:35:9
 clear-words-requires-2 : tie.Need-clear-words-requires-2
 clear-words-requires-2 c κs = search needs
 
--- src/ask.rt:36:9
 same-length : tie.Need-same-length
 same-length c = search needs
 
--- src/ask.rt:36:9
 same-length-2 : tie.Need-same-length-2
 same-length-2 c = search needs
 
--- src/ask.rt:36:9
 returns : tie.Need-returns
 returns c = let a = c .before .before .before .before .before .before .before .before .before .before .before .before .before .before .before .before .before .args in
     let pass = sym (c .before .before .before .before .before .before .before .before .before .before .before .may-ask .ensures) ∙ ap passOf (c .before .before .before .before .before .before .before .before .before .g .given .1) in
@@ -45,38 +33,30 @@ returns c = let a = c .before .before .before .before .before .before .before .b
 enum-told : tie.Need-enum-told
 enum-told c = search needs
 
--- src/ask.rt:38:9
 find-requires : tie.Need-find-requires
 find-requires c κs = let a = c .before .before .before .before .before .before .before .before .before .before .before .args in
     let pass = sym (c .before .before .before .before .before .may-ask .ensures) ∙ ap passOf (c .before .before .before .enum-told .given .1) in
     let m = may-ask (a .height) (a .bytes .now) (a .directory .now) (a .p) (a .k) (roomsOf (a .answers) (a .keys .now) (a .corners .now) (a .trail .now)) pass in
     (m .named, m .ready, m .some, m .keys, m .corners)
 
--- src/ask.rt:39:5
 clear-words-requires-3 : tie.Need-clear-words-requires-3
 clear-words-requires-3 c κs = search needs
 
--- src/ask.rt:40:22
 cast-if1 : tie.Need-cast-if1
 cast-if1 c = search needs
 
--- src/ask.rt:41:9
 clear-words-requires-4 : tie.Need-clear-words-requires-4
 clear-words-requires-4 c κs = search needs
 
--- src/ask.rt:42:9
 same-length-3 : tie.Need-same-length-3
 same-length-3 c = search needs
 
--- src/ask.rt:42:9
 same-length-4 : tie.Need-same-length-4
 same-length-4 c = search needs
 
--- src/ask.rt:42:9
 same-length-5 : tie.Need-same-length-5
 same-length-5 c = search needs
 
--- src/ask.rt:42:9
 returns-2 : tie.Need-returns-2
 returns-2 c = let a = c .before .before .before .before .before .before .before .before .before .before .before .before .before .before .before .before .before .before .before .before .before .before .before .before .before .before .before .before .args in
     let pass = sym (c .before .before .before .before .before .before .before .before .before .before .before .before .before .before .before .before .before .before .before .before .before .before .may-ask .ensures) ∙ ap passOf (c .before .before .before .before .before .before .before .before .before .before .before .before .before .before .before .before .before .before .before .before .enum-told .given .1) in
@@ -84,19 +64,15 @@ returns-2 c = let a = c .before .before .before .before .before .before .before 
     asked-refused (refused-short (a .height) (a .bytes .now) (a .directory .now) (a .p) (a .k) (roomsOf (a .answers) (a .keys .now) (a .corners .now) (a .trail .now)) pass (ends .short (omega (arith, ends .trail-are)))) (ends .keys-are)
     (rw (ends .corners-are) at (c .before .before .before .before .before .before .before .before .clear-words3 .ensures)) (rw (ends .trail-are) at (c .before .before .clear-words4 .ensures))
 
--- src/ask.rt:29:1
 same-length-6 : tie.Need-same-length-6
 same-length-6 c = search needs
 
--- src/ask.rt:29:1
 same-length-7 : tie.Need-same-length-7
 same-length-7 c = search needs
 
--- src/ask.rt:29:1
 same-length-8 : tie.Need-same-length-8
 same-length-8 c = search needs
 
--- src/ask.rt:29:1
 returns-3 : tie.Need-returns-3
 returns-3 c = let a = c .before .before .before .before .before .before .before .before .before .before .before .before .before .before .before .before .before .before .before .before .before .before .before .before .args in
     let rooms = roomsOf (a .answers) (a .keys .now) (a .corners .now) (a .trail .now) in

@@ -8,19 +8,13 @@ use mir.Facts.{toZ-ofZ}
 use borrow.Author.Needs.{needs}
 use Rattle.nearest.proofs.distance.is_named.Statement.{statement}
 use Rattle.nearest.proofs.distance.is_named.Tie as tie
-use Rattle.nearest.proofs.distance.is_named.Reads as reads
-use Rattle.nearest.proofs.distance.is_named.Lts as lts
-use Rattle.nearest.proofs.distance.in_range.Reads as in-range-reads
 
--- src/distance.rt:102:8
 in-range-requires : tie.Need-in-range-requires
 in-range-requires c κs = search needs
 
--- src/distance.rt:103:9
 in-range-requires-2 : tie.Need-in-range-requires-2
 in-range-requires-2 c κs = search needs
 
--- src/distance.rt:103:9
 returns : tie.Need-returns
 returns c = let g = c .before .struct-told2 .given in
     let row = toZ-ofZ {w = w32} {z = c .before .before .before .before .before .args .p .row} (record { sfits = g .0 .1 }) in
@@ -28,7 +22,6 @@ returns c = let g = c .before .struct-told2 .given in
     let yes : leb (natAbs (c .before .before .before .before .before .args .p .row)) maxPlace ≡ true = rw row at (sym (c .before .before .before .in-range .ensures) ∙ c .before .before .if1 .taken) in
     rw yes (rw column at (c .in-range2 .ensures))
 
--- src/distance.rt:99:1
 returns-2 : tie.Need-returns-2
 returns-2 c = let g = c .before .before .struct-told .given in
     let row = toZ-ofZ {w = w32} {z = c .before .before .before .args .p .row} (record { sfits = g .0 .1 }) in

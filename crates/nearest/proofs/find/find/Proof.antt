@@ -5,49 +5,33 @@ use Rattle.board.specs.Levels.{root}
 use borrow.Author.Needs.{needs}
 use Rattle.nearest.proofs.find.find.Statement.{statement}
 use Rattle.nearest.proofs.find.find.Tie as tie
-use Rattle.nearest.proofs.find.find.Reads as reads
-use Rattle.nearest.proofs.find.find.Lts as lts
-use Rattle.bitmap.proofs.GroupNo.root.Reads as root-reads
-use Rattle.lent.proofs.clear_words.Reads as clear-words-reads
-use Rattle.nearest.proofs.find.seek.Reads as seek-reads
-use Rattle.nearest.proofs.open.entered.Reads as entered-reads
-use Rattle.nearest.proofs.pending.add.Reads as add-reads
 
--- src/find.rt:49:5
 clear-words-requires : tie.Need-clear-words-requires
 clear-words-requires c κs = search needs
 
--- src/find.rt:50:36
 root-requires : tie.Need-root-requires
 root-requires c κs = search needs
 
--- src/find.rt:50:9
 entered-requires : tie.Need-entered-requires
 entered-requires c κs = (c .before .before .before .before .before .before .before .before .before .before .pre .0, whole-fits (c .before .before .before .before .before .before .before .before .before .before .pre .1))
 
--- src/find.rt:51:5
 add-requires : tie.Need-add-requires
 add-requires c κs = search needs
 
--- src/find.rt:57:5
 seek-requires : tie.Need-seek-requires
 seek-requires c κs = let pre = c .before .before .before .before .before .before .before .before .before .before .before .before .before .before .before .before .before .before .before .before .before .pre in
     let e = c .before .before .before .before .before .before .before .before .before .before .entered in
     (pre .0, begins (e .result .key) (e .result .corner) (pre .1) (pre .2) (pre .3) (pre .4) (rw (c .before .before .before .before .before .before .before .before .before .before .before .root .ensures) at (e .ensures root (whole-corner (c .before .before .before .before .before .before .before .before .before .before .before .before .before .before .before .before .before .before .before .before .before .args .height)))) (c .before .before .before .before .before .before .before .add .ensures) (length (c .before .before .before .before .before .before .before .before .before .before .before .before .before .before .before .before .before .before .before .before .before .args .trail .now)) (c .before .before .before .before .before .before .before .before .before .before .before .before .before .before .clear-words .ensures))
 
--- src/find.rt:45:1
 same-length : tie.Need-same-length
 same-length c = search needs
 
--- src/find.rt:45:1
 same-length-2 : tie.Need-same-length-2
 same-length-2 c = search needs
 
--- src/find.rt:45:1
 same-length-3 : tie.Need-same-length-3
 same-length-3 c = search needs
 
--- src/find.rt:45:1
 returns : tie.Need-returns
 unfolding begins
 returns c = let pre = c .before .before .before .before .before .before .before .before .before .before .before .before .before .before .before .before .before .before .before .before .before .before .before .before .before .before .before .before .pre in

@@ -6,22 +6,16 @@ use Prim.Native.Nat.{ℕ}
 use borrow.Author.Needs.{needs}
 use Rattle.nearest.proofs.find.goes_on.Statement.{statement}
 use Rattle.nearest.proofs.find.goes_on.Tie as tie
-use Rattle.nearest.proofs.find.goes_on.Reads as reads
-use Rattle.nearest.proofs.find.goes_on.Lts as lts
 
--- src/find.rt:20:18
 cast-opened : tie.Need-cast-opened
 cast-opened c = search needs
 
--- src/find.rt:24:9
 returns : tie.Need-returns
 returns c = record { on = λ e. absurd (let z : _≡_ {A = ℕ} 0 1 = cc e in omega arith); over = λ e. inl (c .if1 .taken) }
 
--- src/find.rt:27:9
 returns-2 : tie.Need-returns-2
 returns-2 c = record { on = λ e. absurd (let z : _≡_ {A = ℕ} 0 1 = cc e in omega arith); over = λ e. inr (inl (c .if2 .taken)) }
 
--- src/find.rt:17:1
 returns-3 : tie.Need-returns-3
 returns-3 c = record { on = λ e. (omega (arith, c .before .if1 .left), omega (arith, c .if2 .left), leb-true _ _ e); over = λ e. inr (inr (leb-false _ _ e)) }
 

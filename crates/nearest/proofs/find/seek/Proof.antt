@@ -8,10 +8,6 @@ use Rattle.nearest.proofs.Going.{Known, known-start, known-goes, known-
 use Rattle.nearest.proofs.Steps.{tally-small, steps-count}
 use Rattle.nearest.proofs.find.seek.Statement.{statement}
 use Rattle.nearest.proofs.find.seek.Tie as tie
-use Rattle.nearest.proofs.find.seek.Reads as reads
-use Rattle.nearest.proofs.find.seek.Lts as lts
-use Rattle.nearest.proofs.find.goes_on.Reads as goes-on-reads
-use Rattle.nearest.proofs.step.turn.Reads as turn-reads
 
 abbrev Inv-loop : tie.InvT-loop
 Inv-loop p bytes directory k keys₀ corners₀ trail₀ t₀ keys corners trail t =
@@ -20,42 +16,33 @@ Inv-loop p bytes directory k keys₀ corners₀ trail₀ t₀ keys corners trail
 abbrev μ-loop : tie.MeasureT-loop
 μ-loop p bytes directory k keys₀ corners₀ trail₀ t₀ keys corners trail t = 2 ^ 16 - (t .opened + t .handed)
 
--- src/find.rt:38:5
 loop-holds : tie.Need-loop-holds Inv-loop μ-loop
 loop-holds c = λ b. known-start b
 
--- src/find.rt:38:11
 goes-on-requires : tie.Need-goes-on-requires Inv-loop μ-loop
 goes-on-requires c κs = search needs
 
--- src/find.rt:39:9
 turn-requires : tie.Need-turn-requires Inv-loop μ-loop
 turn-requires c κs = let on = c .before .before .before .before .goes-on .ensures .on (c .before .before .before .if1 .taken) in
     (c .before .before .before .before .before .before .before .before .before .before .before .pre .0, known-goes (c .before .before .before .before .before .loop .inv (c .before .before .before .before .before .before .before .before .before .before .before .pre .1)) (on .0) (on .1))
 
--- src/find.rt:38:5
 loop-less : tie.Need-loop-less Inv-loop μ-loop
 loop-less c = let on = c .before .before .before .before .before .before .before .before .before .before .before .goes-on .ensures .on (c .before .before .before .before .before .before .before .before .before .before .if1 .taken) in
     omega (arith, steps-count (c .before .before .before .before .before .before .turn .ensures), tally-small (known-goes (c .before .before .before .before .before .before .before .before .before .before .before .before .loop .inv (c .before .before .before .before .before .before .before .before .before .before .before .before .before .before .before .before .before .before .pre .1)) (on .0) (on .1) .searching))
 
--- src/find.rt:38:5
 loop-again : tie.Need-loop-again Inv-loop μ-loop
 loop-again c = let on = c .before .before .before .before .before .before .before .before .before .before .before .goes-on .ensures .on (c .before .before .before .before .before .before .before .before .before .before .if1 .taken) in
     λ b. known-next (c .before .before .before .before .before .before .before .before .before .before .before .before .loop .inv b) (on .0) (on .1) (c .before .before .before .before .before .before .turn .ensures)
 
--- src/find.rt:33:1
 same-length : tie.Need-same-length Inv-loop μ-loop
 same-length c = c .before .before .loop .inv (c .before .before .before .before .before .before .before .before .pre .1) .keys-are
 
--- src/find.rt:33:1
 same-length-2 : tie.Need-same-length-2 Inv-loop μ-loop
 same-length-2 c = c .before .before .loop .inv (c .before .before .before .before .before .before .before .before .pre .1) .corners-are
 
--- src/find.rt:33:1
 same-length-3 : tie.Need-same-length-3 Inv-loop μ-loop
 same-length-3 c = known-long (c .before .before .loop .inv (c .before .before .before .before .before .before .before .before .pre .1))
 
--- src/find.rt:33:1
 returns : tie.Need-returns Inv-loop μ-loop
 returns c = λ b. known-ends (c .before .before .loop .inv b) (b .some) (rw (known-long (c .before .before .loop .inv b)) at (c .before .goes-on .ensures .over (c .if1 .left)))
 

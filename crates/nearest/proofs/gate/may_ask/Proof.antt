@@ -1,35 +1,25 @@
 use Rattle.board.proofs.Asking.{asked-refused, asked-served, asked-sound}
 use Rattle.board.specs.Numbers.{numbersOf}
-use mathlib.Core.Path.{refl, sym, ap, _∙_}
+use mathlib.Core.Path.{sym, ap, _∙_}
 use borrow.Author.Needs.{needs}
 use Rattle.nearest.proofs.gate.may_ask.Statement.{statement}
 use Rattle.nearest.proofs.gate.may_ask.Tie as tie
-use Rattle.nearest.proofs.gate.may_ask.Reads as reads
-use Rattle.nearest.proofs.gate.may_ask.Lts as lts
-use Rattle.board.proofs.ask.ask.Reads as ask-reads
-use Rattle.nearest.proofs.gate.question_passes.Reads as question-passes-reads
 
--- src/gate.rt:53:9
 ask-requires : tie.Need-ask-requires
 ask-requires c κs = search needs
 
--- src/gate.rt:55:26
 enum-known-checked : tie.Need-enum-known-checked
 enum-known-checked c = search needs
 
--- src/gate.rt:56:26
 enum-known-checked-2 : tie.Need-enum-known-checked-2
 enum-known-checked-2 c = search needs
 
--- src/gate.rt:56:48
 question-passes-requires : tie.Need-question-passes-requires
 question-passes-requires c κs = search needs
 
--- src/gate.rt:50:1
 returns : tie.Need-returns
 returns c = let a = c .before .before .before .before .before .before .args in asked-refused (a .height) (a .bytes .now) (a .directory .now) _ (sym (c .before .before .before .ask .ensures) ∙ ap numbersOf (c .before .checked .given .1))
 
--- src/gate.rt:50:1
 returns-2 : tie.Need-returns-2
 returns-2 c = let a = c .before .before .before .before .before .before .before .args in
     let e = sym (c .before .before .before .before .ask .ensures) ∙ ap numbersOf (c .before .before .checked2 .given .1) in

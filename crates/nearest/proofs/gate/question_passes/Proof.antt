@@ -2,16 +2,11 @@ use Rattle.nearest.specs.Places.{inRange}
 use Prim.Native.Nat.{max}
 use native.Mathlib.Omega.{arith}
 use borrow.Author.Tests.{le-leb, lt-leb}
-use lib.Dec.{leb}
 use mathlib.Core.Bool.{Bool, true, false, not}
 use mathlib.Core.Path.{_≡_, refl, sym, _∙_}
 use borrow.Author.Needs.{needs}
 use Rattle.nearest.proofs.gate.question_passes.Statement.{statement}
 use Rattle.nearest.proofs.gate.question_passes.Tie as tie
-use Rattle.nearest.proofs.gate.question_passes.Reads as reads
-use Rattle.nearest.proofs.gate.question_passes.Lts as lts
-use Rattle.nearest.proofs.distance.is_named.Reads as is-named-reads
-use Rattle.nearest.proofs.gate.work_for.Reads as work-for-reads
 
 -- a test that is turned round
 off : (b : Bool) → not b ≡ true → b ≡ false
@@ -22,39 +17,30 @@ on : (b : Bool) → not b ≡ false → b ≡ true
 on true e = refl
 on false e = sym e
 
--- src/gate.rt:37:9
 is-named-requires : tie.Need-is-named-requires
 is-named-requires c κs = search needs
 
--- src/gate.rt:38:9
 returns : tie.Need-returns
 returns c = let no : inRange (c .before .before .args .p) ≡ false = sym (c .before .is-named .ensures) ∙ off _ (c .if1 .taken) in rw no refl
 
--- src/gate.rt:41:9
 returns-2 : tie.Need-returns-2
 returns-2 c = let yes : inRange (c .before .before .before .args .p) ≡ true = sym (c .before .before .is-named .ensures) ∙ on _ (c .before .if1 .left) in rw (yes, lt-leb 1 (c .before .before .before .args .k) (omega arith)) refl
 
--- src/gate.rt:44:9
 returns-3 : tie.Need-returns-3
 returns-3 c = let yes : inRange (c .before .before .before .before .args .p) ≡ true = sym (c .before .before .before .is-named .ensures) ∙ on _ (c .before .before .if1 .left) in rw (yes, le-leb 1 (c .before .before .before .before .args .k) (omega arith), lt-leb (c .before .before .before .before .args .k) 255 (omega arith)) refl
 
--- src/gate.rt:47:9
 returns-4 : tie.Need-returns-4
 returns-4 c = let yes : inRange (c .before .before .before .before .before .args .p) ≡ true = sym (c .before .before .before .before .is-named .ensures) ∙ on _ (c .before .before .before .if1 .left) in let a = c .before .before .before .before .before .args in rw (yes, le-leb 1 (a .k) (omega arith), le-leb (a .k) 255 (omega arith), lt-leb (a .k) (a .answers) (omega arith)) refl
 
--- src/gate.rt:49:9
 work-for-requires : tie.Need-work-for-requires
 work-for-requires c κs = search needs
 
--- src/gate.rt:51:9
 returns-5 : tie.Need-returns-5
 returns-5 c = let yes : inRange (c .before .before .before .before .before .before .before .args .p) ≡ true = sym (c .before .before .before .before .before .before .is-named .ensures) ∙ on _ (c .before .before .before .before .before .if1 .left) in let a = c .before .before .before .before .before .before .before .args in rw (yes, le-leb 1 (a .k) (omega arith), le-leb (a .k) 255 (omega arith), le-leb (a .k) (a .answers) (omega arith), lt-leb (max 1 (a .joints)) (a .keys) (omega arith)) refl
 
--- src/gate.rt:54:9
 returns-6 : tie.Need-returns-6
 returns-6 c = let yes : inRange (c .before .before .before .before .before .before .before .before .args .p) ≡ true = sym (c .before .before .before .before .before .before .before .is-named .ensures) ∙ on _ (c .before .before .before .before .before .before .if1 .left) in let a = c .before .before .before .before .before .before .before .before .args in rw (yes, le-leb 1 (a .k) (omega arith), le-leb (a .k) 255 (omega arith), le-leb (a .k) (a .answers) (omega arith), le-leb (max 1 (a .joints)) (a .keys) (omega arith), lt-leb (max 1 (a .joints)) (a .corners) (omega arith)) refl
 
--- src/gate.rt:34:1
 returns-7 : tie.Need-returns-7
 returns-7 c = let yes : inRange (c .before .before .before .before .before .before .before .before .args .p) ≡ true = sym (c .before .before .before .before .before .before .before .is-named .ensures) ∙ on _ (c .before .before .before .before .before .before .if1 .left) in let a = c .before .before .before .before .before .before .before .before .args in rw (yes, le-leb 1 (a .k) (omega arith), le-leb (a .k) 255 (omega arith), le-leb (a .k) (a .answers) (omega arith), le-leb (max 1 (a .joints)) (a .keys) (omega arith), le-leb (max 1 (a .joints)) (a .corners) (omega arith)) refl
 

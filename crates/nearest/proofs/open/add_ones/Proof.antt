@@ -1,14 +1,12 @@
 use Rattle.board.specs.Under.{quarter}
 use Rattle.nearest.proofs.Quarter.{quarter-fits, quarter-corner, quarters-none, quarters-more, quarters-all}
-use Prim.Native.Nat.{ℕ, suc, _+_, _*_, _-_, _/_, _%_, _^_, _≤_, _<_}
-use mathlib.Core.Path.{_≡_, refl, sym, ap, _∙_}
+use Prim.Native.Nat.{suc, _+_, _-_, _^_, _≤_}
+use mathlib.Core.Path.{_≡_, refl}
 use mathlib.Core.List.{map}
 use native.Mathlib.Omega.{arith}
-use native.Mathlib.Nat.{pow-succ', add-zero}
 use native.Mathlib.Numerals.{add-one}
 use lib.ListN.{length}
 use borrow.Author.Needs.{needs}
-use Rattle.bitmap.specs.Bits.{bitOf, onesOf}
 use Rattle.bitmap.proofs.Ones.{bit-small}
 use Rattle.bitmap.proofs.RankByGroup.{onesTo}
 use Rattle.board.specs.Levels.{Box}
@@ -16,17 +14,8 @@ use Rattle.search.specs.Entries.{packOf}
 use Rattle.search.proofs.Quarters.{kidsTo, ones-so-far, ones-to-suc, ones-few}
 use Rattle.nearest.specs.Places.{placeOf, Corner}
 use Rattle.nearest.specs.Pending.{Added}
-use Rattle.nearest.specs.Opening.{Opened}
-use Rattle.nearest.proofs.Lists.{added-none, added-more}
 use Rattle.nearest.proofs.open.add_ones.Statement.{statement}
 use Rattle.nearest.proofs.open.add_ones.Tie as tie
-use Rattle.nearest.proofs.open.add_ones.Reads as reads
-use Rattle.nearest.proofs.open.add_ones.Lts as lts
-use Rattle.bitmap.proofs.GroupNo.after.Reads as after-reads
-use Rattle.bitmap.proofs.bit_in.Reads as bit-in-reads
-use Rattle.board.proofs.side.Reads as side-reads
-use Rattle.nearest.proofs.open.add_where_one.Reads as add-where-one-reads
-use Rattle.nearest.proofs.open.shifted.Reads as shifted-reads
 
 abbrev Inv-loop : tie.InvT-loop
 Inv-loop p bits level row column pending keys₀ corners₀ half next₀ n₀ quarter₀ keys corners next n quarter =
@@ -38,46 +27,36 @@ abbrev μ-loop : tie.MeasureT-loop
 μ-loop p bits level row column pending keys₀ corners₀ half next₀ n₀ quarter₀ keys corners next n quarter =
     4 - quarter
 
--- src/open.rt:71:9
 side-requires : tie.Need-side-requires Inv-loop μ-loop
 side-requires c κs = search needs
 
--- src/open.rt:75:5
 loop-holds : tie.Need-loop-holds Inv-loop μ-loop
 loop-holds c = let a = c .before .before .before .args in
     (omega arith, c .side .ensures, unfold onesTo in omega arith, unfold onesTo in omega arith, λ b at. quarters-none (placeOf (a .p)) (a .level) (a .first .0) (a .bits) b (a .pending) (a .keys .now) (a .corners .now), refl, refl)
 
--- src/open.rt:76:13
 bit-in-requires : tie.Need-bit-in-requires Inv-loop μ-loop
 bit-in-requires c κs = search needs
 
--- src/open.rt:77:13
 shifted-requires : tie.Need-shifted-requires Inv-loop μ-loop
 shifted-requires c κs = search needs
 
--- src/open.rt:78:13
 shifted-requires-2 : tie.Need-shifted-requires-2 Inv-loop μ-loop
 shifted-requires-2 c κs = search needs
 
--- src/open.rt:79:9
 add-where-one-requires : tie.Need-add-where-one-requires Inv-loop μ-loop
 add-where-one-requires c κs = let q = c .before .before .before .before .before .before .loop .quarter in
     let bits = c .before .before .before .before .before .before .before .before .before .before .args .bits in
     (c .before .before .before .before .before .before .before .before .before .before .pre .0, quarter-fits (c .before .before .before .before .before .loop-test .taken) (c .before .before .before .before .before .before .before .side .ensures) (c .before .before .before .shifted .ensures) (c .before .before .shifted2 .ensures) (c .before .before .before .before .before .before .before .before .before .before .pre .1), omega (arith, bit-small bits q), omega (arith, ones-so-far bits q (c .before .before .before .before .before .loop-test .taken), c .before .before .before .before .before .before .before .before .before .before .pre .3 .keys-room), omega (arith, ones-so-far bits q (c .before .before .before .before .before .loop-test .taken), c .before .before .before .before .before .before .before .before .before .before .pre .3 .corners-room))
 
--- src/open.rt:80:9
 after-requires : tie.Need-after-requires Inv-loop μ-loop
 after-requires c κs = let bits = c .before .before .before .before .before .before .before .before .before .before .before .before .before .before .before .args .bits in omega (arith, bit-small bits (c .before .before .before .before .before .before .before .before .before .before .before .loop .quarter), ones-so-far bits (c .before .before .before .before .before .before .before .before .before .before .before .loop .quarter) (c .before .before .before .before .before .before .before .before .before .before .loop-test .taken), ones-few bits)
 
--- src/open.rt:81:9
 add-quarter : tie.Need-add-quarter Inv-loop μ-loop
 add-quarter c = search needs
 
--- src/open.rt:75:5
 loop-less : tie.Need-loop-less Inv-loop μ-loop
 loop-less c = search needs
 
--- src/open.rt:75:5
 loop-again : tie.Need-loop-again Inv-loop μ-loop
 loop-again c = let a = c .before .before .before .before .before .before .before .before .before .before .before .before .before .before .before .before .args in
     let l = c .before .before .before .before .before .before .before .before .before .before .before .before .loop in
@@ -93,15 +72,12 @@ loop-again c = let a = c .before .before .before .before .before .before .before
       omega arith,
     )
 
--- src/open.rt:67:1
 same-length : tie.Need-same-length Inv-loop μ-loop
 same-length c = search needs
 
--- src/open.rt:67:1
 same-length-2 : tie.Need-same-length-2 Inv-loop μ-loop
 same-length-2 c = search needs
 
--- src/open.rt:67:1
 returns : tie.Need-returns Inv-loop μ-loop
 returns c = let a = c .before .before .before .before .before .args in
     let l = c .before .loop in

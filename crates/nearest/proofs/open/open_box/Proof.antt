@@ -2,33 +2,22 @@ use Rattle.nearest.proofs.Quarter.{kids-by-bits}
 use borrow.Author.Needs.{needs}
 use Rattle.nearest.proofs.open.open_box.Statement.{statement}
 use Rattle.nearest.proofs.open.open_box.Tie as tie
-use Rattle.nearest.proofs.open.open_box.Reads as reads
-use Rattle.nearest.proofs.open.open_box.Lts as lts
-use Rattle.bitmap.proofs.first_child.Reads as first-child-reads
-use Rattle.bitmap.proofs.group_at.Reads as group-at-reads
-use Rattle.nearest.proofs.open.add_ones.Reads as add-ones-reads
 
--- src/open.rt:91:9
 group-at-requires : tie.Need-group-at-requires
 group-at-requires c κs = search needs
 
--- src/open.rt:92:9
 first-child-requires : tie.Need-first-child-requires
 first-child-requires c κs = search needs
 
--- src/open.rt:93:5
 add-ones-requires : tie.Need-add-ones-requires
 add-ones-requires c κs = (c .before .before .before .before .before .before .before .before .pre .0, c .before .before .before .before .before .before .before .before .pre .1 .fits, c .before .before .first-child .ensures .1, rw (c .before .before .before .group-at .ensures .0) (c .before .before .before .before .before .before .before .before .pre .2))
 
--- src/open.rt:87:1
 same-length : tie.Need-same-length
 same-length c = search needs
 
--- src/open.rt:87:1
 same-length-2 : tie.Need-same-length-2
 same-length-2 c = search needs
 
--- src/open.rt:87:1
 returns : tie.Need-returns
 returns c = let a = c .before .before .before .before .before .before .before .before .before .before .before .before .before .args in
     λ b at. rw (kids-by-bits (a .bytes .now) (a .level) (a .g .0) (c .before .before .before .before .before .before .before .before .group-at .result) (c .before .before .before .before .before .before .before .first-child .result .0) b (c .before .before .before .before .before .before .before .before .group-at .ensures .0) (c .before .before .before .before .before .before .before .first-child .ensures .0)) at (c .before .before .before .before .add-ones .ensures b at)

@@ -3,34 +3,25 @@ use native.Mathlib.Omega.{arith}
 use borrow.Author.Needs.{needs}
 use Rattle.nearest.proofs.pending.add.Statement.{statement}
 use Rattle.nearest.proofs.pending.add.Tie as tie
-use Rattle.nearest.proofs.pending.add.Reads as reads
-use Rattle.nearest.proofs.pending.add.Lts as lts
 
--- src/pending.rt:36:5
 mul-keys : tie.Need-mul-keys
 mul-keys c = search needs
 
--- src/pending.rt:36:5
 slice-write-keys : tie.Need-slice-write-keys
 slice-write-keys c = search needs
 
--- src/pending.rt:37:5
 mul-corners : tie.Need-mul-corners
 mul-corners c = search needs
 
--- src/pending.rt:37:5
 slice-write-corners : tie.Need-slice-write-corners
 slice-write-corners c = search needs
 
--- src/pending.rt:30:1
 same-length : tie.Need-same-length
 same-length c = search needs
 
--- src/pending.rt:30:1
 same-length-2 : tie.Need-same-length-2
 same-length-2 c = search needs
 
--- src/pending.rt:30:1
 returns : tie.Need-returns
 returns c = added-one _ _ _ _ _ (omega arith) (omega arith)
 

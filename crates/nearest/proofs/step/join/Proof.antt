@@ -3,31 +3,22 @@ use mathlib.Core.Path.{sym}
 use borrow.Author.Needs.{needs}
 use Rattle.nearest.proofs.step.join.Statement.{statement}
 use Rattle.nearest.proofs.step.join.Tie as tie
-use Rattle.nearest.proofs.step.join.Reads as reads
-use Rattle.nearest.proofs.step.join.Lts as lts
-use Rattle.bitmap.proofs.GroupNo.number.Reads as number-reads
 
--- src/step.rt:41:25
 number-requires : tie.Need-number-requires
 number-requires c κs = search needs
 
--- src/step.rt:41:9
 mul-trail : tie.Need-mul-trail
 mul-trail c = search needs
 
--- src/step.rt:41:9
 slice-write-trail : tie.Need-slice-write-trail
 slice-write-trail c = search needs
 
--- src/step.rt:37:1
 same-length : tie.Need-same-length
 same-length c = search needs
 
--- src/step.rt:37:1
 returns : tie.Need-returns
 returns c = rw (c .number .ensures)
 
--- src/step.rt:37:1
 returns-2 : tie.Need-returns-2
 returns-2 c = sym (set-out _ _ _ (c .if1 .left))
 

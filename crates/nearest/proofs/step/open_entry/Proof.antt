@@ -3,47 +3,31 @@ use Rattle.search.specs.Entries.{entryOf}
 use borrow.Author.Needs.{needs}
 use Rattle.nearest.proofs.step.open_entry.Statement.{statement}
 use Rattle.nearest.proofs.step.open_entry.Tie as tie
-use Rattle.nearest.proofs.step.open_entry.Reads as reads
-use Rattle.nearest.proofs.step.open_entry.Lts as lts
-use Rattle.nearest.proofs.entry.group_of.Reads as group-of-reads
-use Rattle.nearest.proofs.entry.left_of.Reads as left-of-reads
-use Rattle.nearest.proofs.entry.levels_of.Reads as levels-of-reads
-use Rattle.nearest.proofs.entry.top_of.Reads as top-of-reads
-use Rattle.nearest.proofs.open.open_box.Reads as open-box-reads
 
--- src/step.rt:50:9
 group-of-requires : tie.Need-group-of-requires
 group-of-requires c κs = search needs
 
--- src/step.rt:51:17
 levels-of-requires : tie.Need-levels-of-requires
 levels-of-requires c κs = search needs
 
--- src/step.rt:51:17
 sub-level : tie.Need-sub-level
 sub-level c = search needs
 
--- src/step.rt:52:9
 top-of-requires : tie.Need-top-of-requires
 top-of-requires c κs = search needs
 
--- src/step.rt:53:9
 left-of-requires : tie.Need-left-of-requires
 left-of-requires c κs = search needs
 
--- src/step.rt:54:5
 open-box-requires : tie.Need-open-box-requires
 open-box-requires c κs = (c .before .before .before .before .before .before .before .before .before .before .pre .0, entry-opens (c .before .before .before .before .before .before .before .before .before .before .pre .1) (c .before .before .before .before .before .group-of .ensures) (c .before .before .before .before .levels-of .ensures) (c .before .before .before .top-of .ensures) (c .before .before .left-of .ensures), rw (c .before .before .before .before .before .group-of .ensures) (c .before .before .before .before .before .before .before .before .before .before .pre .2))
 
--- src/step.rt:46:1
 same-length : tie.Need-same-length
 same-length c = search needs
 
--- src/step.rt:46:1
 same-length-2 : tie.Need-same-length-2
 same-length-2 c = search needs
 
--- src/step.rt:46:1
 returns : tie.Need-returns
 returns c = rw (entry-kids (c .before .before .before .before .before .before .before .before .before .before .before .before .before .before .before .pre .1) (c .before .before .before .before .before .before .before .before .before .before .group-of .ensures) (c .before .before .before .before .before .before .before .before .before .levels-of .ensures) (c .before .before .before .before .before .before .before .before .top-of .ensures) (c .before .before .before .before .before .before .before .left-of .ensures)) at (c .before .before .before .before .open-box .ensures (entryOf (c .before .before .before .before .before .before .before .before .before .before .before .before .before .before .before .args .e .key) (c .before .before .before .before .before .before .before .before .before .before .before .before .before .before .before .args .e .corner) .box) (entry-corner (c .before .before .before .before .before .before .before .before .before .before .before .before .before .before .before .pre .1) (c .before .before .before .before .before .before .before .before .before .before .group-of .ensures) (c .before .before .before .before .before .before .before .before .before .levels-of .ensures) (c .before .before .before .before .before .before .before .before .top-of .ensures) (c .before .before .before .before .before .before .before .left-of .ensures)))
 

@@ -1,110 +1,80 @@
-use mathlib.Core.Path.{_≡_, sym}
+use mathlib.Core.Path.{_≡_}
 use native.Mathlib.Omega.{arith}
 use Rattle.nearest.proofs.Steps.{step-room, step-box, ones-room, tally-small, stepped-joint, stepped-box, kind-joint, kind-box}
 use borrow.Author.Needs.{needs}
 use Rattle.nearest.proofs.step.step_core.Statement.{statement}
 use Rattle.nearest.proofs.step.step_core.Tie as tie
-use Rattle.nearest.proofs.step.step_core.Reads as reads
-use Rattle.nearest.proofs.step.step_core.Lts as lts
-use Rattle.nearest.proofs.entry.group_of.Reads as group-of-reads
-use Rattle.nearest.proofs.entry.is_joint.Reads as is-joint-reads
-use Rattle.nearest.proofs.pending.take.Reads as take-reads
-use Rattle.nearest.proofs.step.hand_out.Reads as hand-out-reads
-use Rattle.nearest.proofs.step.join.Reads as join-reads
-use Rattle.nearest.proofs.step.open_entry.Reads as open-entry-reads
 
--- src/step.rt:65:42
 cast-take : tie.Need-cast-take
 cast-take c = search needs
 
--- src/step.rt:65:9
 take-requires : tie.Need-take-requires
 take-requires c κs = search needs
 
--- src/step.rt:66:8
 is-joint-requires : tie.Need-is-joint-requires
 is-joint-requires c κs = search needs
 
--- src/step.rt:67:24
 cast-hand-out : tie.Need-cast-hand-out
 cast-hand-out c = search needs
 
--- src/step.rt:67:9
 hand-out-requires : tie.Need-hand-out-requires
 hand-out-requires c κs = let go = c .before .before .before .before .before .before .before .before .before .before .before .before .before .before .before .pre .1 in
     let tk = c .before .before .before .before .before .before .before .take .ensures in
     omega (arith, step-room _ _ _ _ _ _ go tk, kind-joint (c .before .before .before .before .before .before .before .take .result .key) (c .before .before .is-joint .ensures) (c .before .if1 .taken), go .searching .keys-room, tk .keys-long)
 
--- src/step.rt:70:22
 sub-t23 : tie.Need-sub-t23
 sub-t23 c = search needs
 
--- src/step.rt:71:21
 add-t24 : tie.Need-add-t24
 add-t24 c = omega (arith, tally-small (c .before .before .before .before .before .before .before .before .before .before .before .before .before .before .before .before .before .before .pre .1 .searching))
 
--- src/step.rt:68:9
 same-length : tie.Need-same-length
 same-length c = search needs
 
--- src/step.rt:68:9
 same-length-2 : tie.Need-same-length-2
 same-length-2 c = search needs
 
--- src/step.rt:68:9
 returns : tie.Need-returns
 returns c = rw (c .before .before .hand-out .ensures) (stepped-joint _ _ _ _ _ _ (c .before .before .before .before .before .before .before .before .before .before .before .before .before .before .before .before .before .before .pre .1) (c .before .before .before .before .before .before .before .before .before .before .take .ensures) _ (kind-joint (c .before .before .before .before .before .before .before .before .before .before .take .result .key) (c .before .before .before .before .before .is-joint .ensures) (c .before .before .before .before .if1 .taken)))
 
--- src/step.rt:74:17
 cast-join : tie.Need-cast-join
 cast-join c = search needs
 
--- src/step.rt:74:34
 group-of-requires : tie.Need-group-of-requires
 group-of-requires c κs = search needs
 
--- src/step.rt:74:5
 join-requires : tie.Need-join-requires
 join-requires c κs = search needs
 
--- src/step.rt:75:59
 sub-open-entry : tie.Need-sub-open-entry
 sub-open-entry c = search needs
 
--- src/step.rt:75:58
 cast-open-entry : tie.Need-cast-open-entry
 cast-open-entry c = search needs
 
--- src/step.rt:75:9
 open-entry-requires : tie.Need-open-entry-requires
 open-entry-requires c κs = let go = c .before .before .before .before .before .before .before .before .before .before .before .before .before .before .before .before .before .before .before .before .before .pre .1 in
     let tk = c .before .before .before .before .before .before .before .before .before .before .before .before .before .take .ensures in
     let box = kind-box (c .before .before .before .before .before .before .before .before .before .before .before .before .before .take .result .key) (c .before .before .before .before .before .before .before .before .is-joint .ensures) (c .before .before .before .before .before .before .before .if1 .left) in
     (c .before .before .before .before .before .before .before .before .before .before .before .before .before .before .before .before .before .before .before .before .before .pre .0, step-box _ _ _ _ _ _ go tk box, ones-room _ _ _ _ _ _ go tk box)
 
--- src/step.rt:77:17
 add-t29 : tie.Need-add-t29
 add-t29 c = omega (arith, tally-small (c .before .before .before .before .before .before .before .before .before .before .before .before .before .before .before .before .before .before .before .before .before .before .before .before .before .before .pre .1 .searching))
 
--- src/step.rt:78:18
 cast-t34 : tie.Need-cast-t34
 cast-t34 c = let go = c .before .before .before .before .before .before .before .before .before .before .before .before .before .before .before .before .before .before .before .before .before .before .before .before .before .before .pre .1 in
     let tk = c .before .before .before .before .before .before .before .before .before .before .before .before .before .before .before .before .before .before .take .ensures in
     omega (arith, c .before .before .before .before .open-entry .ensures .counted, step-room _ _ _ _ _ _ go tk, tally-small (go .searching))
 
--- src/step.rt:58:1
 same-length-3 : tie.Need-same-length-3
 same-length-3 c = search needs
 
--- src/step.rt:58:1
 same-length-4 : tie.Need-same-length-4
 same-length-4 c = search needs
 
--- src/step.rt:58:1
 same-length-5 : tie.Need-same-length-5
 same-length-5 c = search needs
 
--- src/step.rt:58:1
 returns-2 : tie.Need-returns-2
 returns-2 c = rw (c .before .before .before .before .before .before .before .before .before .join .ensures, c .before .before .before .before .before .before .before .before .before .before .group-of .ensures) (stepped-box _ _ _ _ _ _ (c .before .before .before .before .before .before .before .before .before .before .before .before .before .before .before .before .before .before .before .before .before .before .before .before .before .before .pre .1) (c .before .before .before .before .before .before .before .before .before .before .before .before .before .before .before .before .before .before .take .ensures) _ (kind-box (c .before .before .before .before .before .before .before .before .before .before .before .before .before .before .before .before .before .before .take .result .key) (c .before .before .before .before .before .before .before .before .before .before .before .before .before .is-joint .ensures) (c .before .before .before .before .before .before .before .before .before .before .before .before .if1 .left)) (c .before .before .before .before .open-entry .ensures))
 
