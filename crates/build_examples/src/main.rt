@@ -9,44 +9,22 @@ use board::member::member;
 use board::window::Windowed;
 use board::window::window;
 use build::Built;
-use refusal::Refusal;
 
-fn say(text: &[u8]) {
-    io::write_all(1, text);
-}
-
-fn say_number(n: u32) {
-    io::print_decimal(1, n as u64);
-}
-
+// A length; all of them here are small.
 fn say_size(n: usize) {
-    io::print_decimal(1, n as u64);
-}
-
-fn say_byte(b: u8) {
-    io::print_hex(1, b as u64, 2);
-}
-
-fn say_bytes(bytes: &[u8]) {
-    for i in 0..bytes.len() {
-        say(b" ");
-        say_byte(bytes[i]);
+    if n < 65536 {
+        say::number(n as u32);
     }
-}
-
-fn say_refused(refusal: Refusal) {
-    say(b"refused ");
-    say_number(refusal.number());
 }
 
 fn say_checked(answer: Checked) {
     match answer {
         Checked::Board { joints, boxes } => {
-            say_number(joints);
-            say(b" ");
-            say_number(boxes);
+            say::number(joints);
+            say::text(b" ");
+            say::number(boxes);
         }
-        Checked::Refused(refusal) => say_refused(refusal),
+        Checked::Refused(refusal) => say::refused(refusal),
     }
 }
 
@@ -98,29 +76,29 @@ fn sum_of(list: &[u32]) -> u32 {
 fn say_window(height: u32, bytes: &[u8], directory: &[u16], rows: &mut [u32], columns: &mut [u32])
     requires { ⌜ height < 32 ⌝ }
 {
-    say(b", window ");
+    say::text(b", window ");
     let last = 2147483647 >> (31 - height);
     match window(height, bytes, directory, 0, last, 0, last, rows, columns) {
-        Windowed::Cells(n) => say_number(n),
-        Windowed::Refused(refusal) => say_refused(refusal),
+        Windowed::Cells(n) => say::number(n),
+        Windowed::Refused(refusal) => say::refused(refusal),
     }
-    say(b" ");
-    say_number(sum_of(rows));
-    say(b" ");
-    say_number(sum_of(columns));
+    say::text(b" ");
+    say::number(sum_of(rows));
+    say::text(b" ");
+    say::number(sum_of(columns));
 }
 
 fn say_member(height: u32, bytes: &[u8], directory: &[u16], row: u32, column: u32) {
     match member(height, bytes, directory, row, column) {
-        Membership::Stored => say(b"1"),
-        Membership::Absent => say(b"0"),
-        Membership::Refused(_) => say(b"-"),
+        Membership::Stored => say::text(b"1"),
+        Membership::Absent => say::text(b"0"),
+        Membership::Refused(_) => say::text(b"-"),
     }
 }
 
 // Whether cells of the diagonal and of column 1 are stored; those off the board are refused.
 fn say_members(height: u32, bytes: &[u8], directory: &[u16]) {
-    say(b", members ");
+    say::text(b", members ");
     for i in 0..6 {
         say_member(height, bytes, directory, i, i);
         say_member(height, bytes, directory, i, 1);
@@ -152,18 +130,18 @@ fn say_bitmap(height: u32, bitmap: &[u8], length: usize) {
         return;
     }
     let bytes = &bitmap[..length];
-    say(b" sum ");
-    say_number(sum(bytes));
+    say::text(b" sum ");
+    say::number(sum(bytes));
     if length < 9 {
-        say(b" =");
-        say_bytes(bytes);
+        say::text(b" =");
+        say::bytes(bytes);
     }
-    say(b", check ");
+    say::text(b", check ");
     say_checked(check(height, bytes));
     if height < 11 {
         say_asked(height, bytes, &mut [7; 140]);
     }
-    say(b", behind ");
+    say::text(b", behind ");
     say_nonzero_bytes(&bitmap[length..]);
 }
 
@@ -174,37 +152,37 @@ fn say_built(height: u32, bitmap: &[u8], answer: Built) {
             boxes,
             length,
         } => {
-            say_number(joints);
-            say(b" joints ");
-            say_number(boxes);
-            say(b" boxes ");
-            say_number(length);
-            say(b" bytes");
+            say::number(joints);
+            say::text(b" joints ");
+            say::number(boxes);
+            say::text(b" boxes ");
+            say::number(length);
+            say::text(b" bytes");
             say_bitmap(height, bitmap, length as usize);
         }
         Built::Refused(refusal) => {
-            say_refused(refusal);
-            say(b", left ");
+            say::refused(refusal);
+            say::text(b", left ");
             say_nonzero_bytes(bitmap);
         }
     }
 }
 
 fn show(height: u32, rows: &[u32], columns: &[u32], work: &mut [u32], bitmap: &mut [u8]) {
-    say(b"build ");
-    say_number(height);
-    say(b" from ");
+    say::text(b"build ");
+    say::number(height);
+    say::text(b" from ");
     say_size(rows.len());
-    say(b" in ");
+    say::text(b" in ");
     say_size(work.len());
-    say(b" ");
+    say::text(b" ");
     say_size(bitmap.len());
-    say(b": ");
+    say::text(b": ");
     let answer = build::build(height, rows, columns, work, bitmap);
     say_built(height, bitmap, answer);
-    say(b", work ");
+    say::text(b", work ");
     say_nonzero_words(work);
-    say(b"\n");
+    say::text(b"\n");
 }
 
 // Room for what is small. What is lent for writing begins with other numbers than zero, here and below.

@@ -13,32 +13,32 @@ slice-aggregate-bytes c =
     let a = c .before .before .before .args in
     sym (length-take-le (a .length) (a .bitmap .now) (c .before .if1 .left))
 
-slice-aggregate-say : tie.Need-slice-aggregate-say
-slice-aggregate-say c = search needs
+slice-aggregate-text : tie.Need-slice-aggregate-text
+slice-aggregate-text c = search needs
 
-say-requires : tie.Need-say-requires
-say-requires c κs = search needs
+text-requires : tie.Need-text-requires
+text-requires c κs = search needs
 
 sum-requires : tie.Need-sum-requires
 sum-requires c κs = search needs
 
-say-number-requires : tie.Need-say-number-requires
-say-number-requires c κs = search needs
+number-requires : tie.Need-number-requires
+number-requires c κs = search needs
 
-slice-aggregate-say-2 : tie.Need-slice-aggregate-say-2
-slice-aggregate-say-2 c = search needs
+slice-aggregate-text-2 : tie.Need-slice-aggregate-text-2
+slice-aggregate-text-2 c = search needs
 
-say-requires-2 : tie.Need-say-requires-2
-say-requires-2 c κs = search needs
+text-requires-2 : tie.Need-text-requires-2
+text-requires-2 c κs = search needs
 
-say-bytes-requires : tie.Need-say-bytes-requires
-say-bytes-requires c κs = search needs
+bytes-requires : tie.Need-bytes-requires
+bytes-requires c κs = search needs
 
-slice-aggregate-say-3 : tie.Need-slice-aggregate-say-3
-slice-aggregate-say-3 c = search needs
+slice-aggregate-text-3 : tie.Need-slice-aggregate-text-3
+slice-aggregate-text-3 c = search needs
 
-say-requires-3 : tie.Need-say-requires-3
-say-requires-3 c κs = search needs
+text-requires-3 : tie.Need-text-requires-3
+text-requires-3 c κs = search needs
 
 check-requires : tie.Need-check-requires
 check-requires c κs = search needs
@@ -52,11 +52,11 @@ slice-aggregate-say-asked c = search needs
 say-asked-requires : tie.Need-say-asked-requires
 say-asked-requires c κs = search needs
 
-slice-aggregate-say-4 : tie.Need-slice-aggregate-say-4
-slice-aggregate-say-4 c = search needs
+slice-aggregate-text-4 : tie.Need-slice-aggregate-text-4
+slice-aggregate-text-4 c = search needs
 
-say-requires-4 : tie.Need-say-requires-4
-say-requires-4 c κs = search needs
+text-requires-4 : tie.Need-text-requires-4
+text-requires-4 c κs = search needs
 
 sub-say-nonzero-bytes : tie.Need-sub-say-nonzero-bytes
 sub-say-nonzero-bytes c = search needs
@@ -79,21 +79,21 @@ say-bitmap-spec =
     (tie.spec
     returns
     slice-aggregate-bytes
-    slice-aggregate-say
-    say-requires
+    slice-aggregate-text
+    text-requires
     sum-requires
-    say-number-requires
-    slice-aggregate-say-2
-    say-requires-2
-    say-bytes-requires
-    slice-aggregate-say-3
-    say-requires-3
+    number-requires
+    slice-aggregate-text-2
+    text-requires-2
+    bytes-requires
+    slice-aggregate-text-3
+    text-requires-3
     check-requires
     say-checked-requires
     slice-aggregate-say-asked
     say-asked-requires
-    slice-aggregate-say-4
-    say-requires-4
+    slice-aggregate-text-4
+    text-requires-4
     sub-say-nonzero-bytes
     part-say-nonzero-bytes-start
     part-say-nonzero-bytes-end
