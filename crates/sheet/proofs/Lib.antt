@@ -2,3 +2,5 @@ pub mod Marked
 pub mod Recording
 pub mod Scanning
 pub mod Shape
+pub mod Filling
+pub mod Reading

@@ -1,5 +1,7 @@
 pub mod Kinds
 pub mod Records
+pub mod Answers
 pub mod Sheet
 pub mod Scan
-pub mod Answers
+pub mod Codes
+pub mod Promise
