@@ -4,3 +4,4 @@ pub mod Scanning
 pub mod Shape
 pub mod Filling
 pub mod Reading
+pub mod Theorems
