@@ -3,13 +3,20 @@
 ghost use mathlib.Core.Path.{_≡_};
 ghost use mathlib.Core.List.{[], _∷_};
 ghost use lib.IntN.{pos};
-ghost use lib.ListN.{getD};
-ghost use Rattle.refusal.specs.Answer.{numberIn, valueIn};
+ghost use lib.ListN.{length};
+ghost use Rattle.refusal.specs.Answer.{leftIn, numberIn, valueIn};
 ghost use Rattle.measure.specs.Measure.{readOf, readMarkedOf};
 ghost use Rattle.board.specs.Check.{checkOf};
+ghost use Rattle.sheet.specs.Sheet.{sheetOf};
+ghost use Rattle.sheet.specs.Promise.{answerIn, bitmapIn, readOf as sheetReadOf};
+ghost use Rattle.tablet.specs.Sheets.{maxRecords, numberAt, valuesAt};
 use board::check::Checked;
 use measure::Marked;
 use measure::Reading;
+use sheet::Sheeted;
+
+// The most joint records that a sheet can have: there is always room for them.
+const MAX_RECORDS: usize = 5957;
 
 // A measure of five bytes, as 012,5, in half millimetres.
 #[no_mangle]
@@ -67,6 +74,50 @@ pub extern "C" fn joint_board_check(
         Checked::Refused(refusal) => {
             *joints = 0;
             *boxes = 0;
+            refusal.number()
+        }
+    }
+}
+
+// Builds the board of a joint sheet into the bitmap's room. The offset is that of the first record after the joints, or after a refusal where
+// the sheet is wrong.
+#[no_mangle]
+pub extern "C" fn joint_board_build(
+    sheet: &[u8],
+    bitmap: &mut [u8],
+    height: &mut u32,
+    joints: &mut u32,
+    boxes: &mut u32,
+    size: &mut u32,
+    offset: &mut usize,
+) -> u32
+    ensures { λ r. ⌜ (r ≡ numberAt (sheetReadOf (now (sheet .entry)) maxRecords (length (now (bitmap .entry))))) × (now (height .exit) ∷ now (joints .exit) ∷ now (boxes .exit) ∷ now (size .exit) ∷ now (offset .exit) ∷ [] ≡ valuesAt (sheetReadOf (now (sheet .entry)) maxRecords (length (now (bitmap .entry))))) × (now (bitmap .exit) ≡ leftIn (answerIn (sheetReadOf (now (sheet .entry)) maxRecords (length (now (bitmap .entry))))) (bitmapIn (sheetOf (now (sheet .entry)))) (length (now (bitmap .entry)))) ⌝ }
+{
+    let mut work = [0u32; MAX_RECORDS];
+    match sheet::read(sheet, &mut work, bitmap) {
+        Sheeted::Board {
+            height: h,
+            joints: j,
+            boxes: b,
+            length: l,
+            requests: q,
+        } => {
+            *height = h;
+            *joints = j;
+            *boxes = b;
+            *size = l;
+            *offset = q;
+            0
+        }
+        Sheeted::Refused {
+            refusal,
+            offset: at,
+        } => {
+            *height = 0;
+            *joints = 0;
+            *boxes = 0;
+            *size = 0;
+            *offset = at;
             refusal.number()
         }
     }
