@@ -37,6 +37,8 @@ enum joint_board_number {
 /* Lengths in bytes. */
 #define JOINT_BOARD_MEASURE_BYTES 5u /* a measure, as 012,5 */
 #define JOINT_BOARD_MARKED_BYTES 6u  /* a marked measure, as -000,5 */
+#define JOINT_BOARD_SHEET_BYTES 65536u /* the longest sheet */
+#define JOINT_BOARD_BITMAP_BYTES 8875u /* room that every board's bitmap fits: with it, 18 never occurs */
 
 /* A measure: three digits, a comma, then 0 or 5. *value is 2 times the three digits, plus 1 if it ends in 5: 0 to 1,999 half millimetres.
  * Refused: 13, for any text of any length that is no measure. */
@@ -47,6 +49,14 @@ uint32_t joint_board_read_marked(const uint8_t *text, size_t length, int32_t *va
 
 /* The check of a board's bitmap: the number of its joints and of its boxes. Refused in this order: 1, the first of 2 or 3 in bit order, 4, 5. */
 uint32_t joint_board_check(uint32_t height, const uint8_t *bytes, size_t length, uint32_t *joints, uint32_t *boxes);
+
+/* Builds the board of a joint sheet: its bitmap goes into the room lent, then zeros to the room's end; after a refusal the room is all zero.
+ * Served: *height, *joints (distinct ones), *boxes, *size (the bitmap's bytes), and *offset, that of the first record after the joints.
+ * Refused: *offset is where the sheet is wrong, and the other numbers are zero. In this order: 19 at offset 0; then record by record 14, 15,
+ * 16, and of its body 1, or 13, and for a joint 12, each at the record's kind byte; 17 at the first byte after the end record, or at the
+ * sheet's length; last 5, then 18, at offset 0. The call has room of its own for the joints of the longest sheet (24 kilobytes of stack). */
+uint32_t joint_board_build(const uint8_t *sheet, size_t length, uint8_t *bitmap, size_t room, uint32_t *height, uint32_t *joints, uint32_t *boxes,
+                           uint32_t *size, size_t *offset);
 
 #ifdef __cplusplus
 }

@@ -3,6 +3,7 @@
  *   host examples   calls each entry on the paper's examples and prints what it got
  *   host check      reads boards from standard input and prints a line for each (tests/second/README.md has the streams)
  *   host measure    reads texts from standard input and prints both readings of each
+ *   host sheet      reads sheets with bitmap rooms from standard input and prints what is built of each
  */
 #include "joint_board.h"
 
@@ -60,6 +61,38 @@ static void measure_stream(void) {
     }
 }
 
+/* The stream's work room is not used: the call brings its own. A case whose room would be too short there is for others to try. */
+static void sheet_stream(void) {
+    for (;;) {
+        next_number(1);
+        uint32_t room = next_number(0);
+        uint32_t length = next_number(0);
+        uint8_t *sheet = next_bytes(length);
+        uint8_t *bitmap = malloc(room ? room : 1);
+        if (!bitmap) {
+            exit(2);
+        }
+        memset(bitmap, 77, room);
+        uint32_t height = 77, joints = 77, boxes = 77, size = 77;
+        size_t offset = 77;
+        uint32_t number = joint_board_build(sheet, length, bitmap, room, &height, &joints, &boxes, &size, &offset);
+        size_t after = number ? 0 : offset, at = number ? offset : 0;
+        printf("%" PRIu32 " %zu %" PRIu32 " %" PRIu32 " %" PRIu32 " %" PRIu32 " %zu ", number, at, height, joints, boxes, size, after);
+        for (uint32_t i = 0; i < size; i++) {
+            printf("%02x", bitmap[i]);
+        }
+        for (uint32_t i = size; i < room; i++) {
+            if (bitmap[i] != 0) {
+                printf(" not zero at %" PRIu32, i);
+                break;
+            }
+        }
+        printf("%s\n", number ? "-" : "");
+        free(sheet);
+        free(bitmap);
+    }
+}
+
 static void try_measure(const char *text) {
     uint32_t plain = 77;
     int32_t marked = 77;
@@ -98,9 +131,39 @@ static void examples(void) {
     try_board(2, "", none, 0);
 }
 
+/* Sheet R of the paper, a room of just its two bytes, one of three, and one that is too short. */
+static void try_sheet(const char *name, const uint8_t *sheet, size_t length, size_t room) {
+    uint8_t bitmap[4] = {77, 77, 77, 77};
+    uint32_t height = 77, joints = 77, boxes = 77, size = 77;
+    size_t offset = 77;
+    uint32_t number = joint_board_build(sheet, length, bitmap, room, &height, &joints, &boxes, &size, &offset);
+    printf("sheet %s, room %zu: %" PRIu32 " %" PRIu32 " %" PRIu32 " %" PRIu32 " %" PRIu32 " %zu, left", name, room, number, height, joints, boxes, size, offset);
+    for (size_t i = 0; i < 4; i++) {
+        printf(" %02x", bitmap[i]);
+    }
+    printf("\n");
+}
+
+static const uint8_t sheet_r[] = "\x01\x02"
+                                 "\x02" "000,0" "000,5" "\x02" "000,5" "000,0" "\x02" "001,0" "001,5" "\x02" "001,5" "001,5"
+                                 "\x03\x01" "+000,0" "+001,5"
+                                 "\x04" "000,5" "001,5" "000,0" "001,5"
+                                 "\x05";
+
+static void sheet_examples(void) {
+    size_t length = sizeof sheet_r - 1;
+    try_sheet("R", sheet_r, length, 2);
+    try_sheet("R", sheet_r, length, 3);
+    try_sheet("R", sheet_r, length, 1);
+    try_sheet("R cut at 81", sheet_r, length - 1, 3);
+    try_sheet("R cut at 80", sheet_r, length - 2, 3);
+    try_sheet("empty", sheet_r, 0, 3);
+}
+
 int main(int argc, char **argv) {
     if (argc == 2 && strcmp(argv[1], "examples") == 0) {
         examples();
+        sheet_examples();
         return 0;
     }
     if (argc == 2 && strcmp(argv[1], "check") == 0) {
@@ -109,6 +172,9 @@ int main(int argc, char **argv) {
     if (argc == 2 && strcmp(argv[1], "measure") == 0) {
         measure_stream();
     }
-    fprintf(stderr, "usage: host examples | host check < boards | host measure < texts\n");
+    if (argc == 2 && strcmp(argv[1], "sheet") == 0) {
+        sheet_stream();
+    }
+    fprintf(stderr, "usage: host examples | host check < boards | host measure < texts | host sheet < sheets\n");
     return 2;
 }

@@ -104,6 +104,16 @@ pub fn build_line(case: &mut Cases) -> Result<String, String> {
 /// `number offset height joints boxes length after bitmap`
 pub fn sheet_line(case: &mut Cases) -> Result<String, String> {
     let work = case.count()?;
+    sheet_line_with(case, work)
+}
+
+/// the same for a call that brings room of its own for the joints of the longest sheet; the work room of the case is left aside
+pub fn tablet_line(case: &mut Cases) -> Result<String, String> {
+    case.count()?;
+    sheet_line_with(case, usize::MAX)
+}
+
+fn sheet_line_with(case: &mut Cases, work: usize) -> Result<String, String> {
     let room = case.count()?;
     let bytes = case.counted_bytes()?;
     Ok(match sheet::read(bytes, work, room) {

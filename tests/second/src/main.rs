@@ -30,12 +30,13 @@ usage:
   second measure < TEXTS            number and value of each text, read as a plain and as a marked measure
   second build < CELLS              number, joints, boxes, length and bitmap built from each list of cells
   second sheet < CALLS              number, offset, height, joints, boxes, length, next record and bitmap of each sheet
+  second tablet < CALLS             the same for a call that brings its own work room
   second nearest < QUESTIONS        number, joints found and boxes opened of each question, then the joints and the trail
   second sheets N SEED DIR          writes the fixed sheets and N random ones to DIR
   second boards N SEED              the stream of the fixed boards and N random ones, for check
   second texts N SEED               the stream of the fixed texts and N random ones, for measure
   second cells N SEED               the stream of the fixed lists of cells and N random ones, for build
-  second calls N SEED               the stream of the fixed sheets and N random ones, for sheet
+  second calls N SEED               the stream of the fixed sheets and N random ones, for sheet and tablet
   second questions N SEED           the stream of the fixed questions and N random ones, for nearest
   second examples DIR               writes the sheets with reports written by hand to DIR, as NAME.sheet and NAME.report
   second selftest                   tests this program
@@ -64,6 +65,7 @@ fn run(words: &[&str]) -> Result<bool, String> {
         ["measure"] => answer(batch::measure_line)?,
         ["build"] => answer(batch::build_line)?,
         ["sheet"] => answer(batch::sheet_line)?,
+        ["tablet"] => answer(batch::tablet_line)?,
         ["nearest"] => answer(batch::nearest_line)?,
         ["sheets", count, seed, dir] => write_sheets(number(count)? as usize, number(seed)?, Path::new(dir))?,
         ["boards", count, seed] => print(&boards::stream(number(count)? as usize, number(seed)?))?,
