@@ -1,7 +1,7 @@
 // Cells as codes, the numbers in whose order a bitmap has them.
 ghost use mathlib.Core.Path.{_≡_};
 ghost use mathlib.Core.List.{_++_, map};
-ghost use Prim.Native.Nat.{_^_, _<_, _≤_};
+ghost use Prim.Native.Nat.{_≤_};
 ghost use lib.ListN.{length, drop};
 ghost use Rattle.board.specs.Limits.{maxHeight};
 ghost use Rattle.board.specs.Code.{code as codeAt, codeOf};

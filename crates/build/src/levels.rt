@@ -1,12 +1,12 @@
 // Groups written level by level into the room there is, and counted on past it.
 ghost use mathlib.Core.Path.{_≡_};
 ghost use mathlib.Core.List.{List, [], _∷_, _++_};
-ghost use Prim.Native.Nat.{ℕ, _+_, _*_, _-_, _/_, _^_, _<_, _≤_};
+ghost use Prim.Native.Nat.{ℕ, _+_, _*_, _/_, _^_, _<_, _≤_};
 ghost use lib.ListN.{length, getD, take, replicate};
 ghost use Rattle.order.proofs.Sets.{In, Rising};
 ghost use Rattle.board.specs.Limits.{maxHeight, maxJoints};
 ghost use Rattle.build.specs.Build.{groupsFrom};
-ghost use Rattle.build.specs.Writing.{inByte, putGroup, fit, levelOf, worth, Written};
+ghost use Rattle.build.specs.Writing.{inByte, putGroup, levelOf, worth, Written};
 use bitmap::GroupNo;
 
 // The box of side 2^s that a cell is in, by the cell's code.

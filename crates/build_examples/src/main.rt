@@ -1,6 +1,6 @@
 // Boards built from lists of cells: one line for each call, with the call, what it answers, what the check, the window of the whole board and
 // membership say of the bitmap, and what is left where zeros must be.
-ghost use Prim.Native.Nat.{_^_, _≤_, _<_};
+ghost use Prim.Native.Nat.{_≤_, _<_};
 use board::check::Checked;
 use board::check::check;
 use board::directory::make_directory;
@@ -9,6 +9,8 @@ use board::member::member;
 use board::window::Windowed;
 use board::window::window;
 use build::Built;
+
+mod lists;
 
 // A length; all of them here are small.
 fn say_size(n: usize) {
@@ -241,30 +243,11 @@ fn show_a(bitmap: &mut [u8]) {
     show(2, &[0, 1, 2, 3], &[1, 0, 3, 3], &mut [7; 4], bitmap);
 }
 
-// The row or the column of a cell in lines of a width, 2^step apart, again from the first after a period.
-fn coordinate(i: usize, period: usize, width: u32, step: u32, column: bool) -> u32
-    requires { ⌜ (1 ≤ period) × (period ≤ 65536) × (1 ≤ width) × (step < 32) ⌝ }
-{
-    let cell = (i % period) as u32;
-    if column {
-        return (cell % width) << step;
-    }
-    (cell / width) << step
-}
-
-fn grid(list: &mut [u32], period: usize, width: u32, step: u32, column: bool)
-    requires { ⌜ (1 ≤ period) × (period ≤ 65536) × (1 ≤ width) × (step < 32) ⌝ }
-{
-    for i in 0..list.len() {
-        list[i] = coordinate(i, period, width, step, column);
-    }
-}
-
 fn show_full(height: u32, width: u32, rows: &mut [u32], columns: &mut [u32])
     requires { ⌜ 1 ≤ width ⌝ }
 {
-    grid(rows, 65536, width, 0, false);
-    grid(columns, 65536, width, 0, true);
+    lists::grid(rows, 65536, width, 0, false);
+    lists::grid(columns, 65536, width, 0, true);
     show(height, rows, columns, &mut [7; 1024], &mut [7; 200]);
 }
 
@@ -287,8 +270,8 @@ fn show_sixteenths(
 )
     requires { ⌜ (1 ≤ period) × (period ≤ 65536) × (step < 32) ⌝ }
 {
-    grid(rows, period, 64, step, false);
-    grid(columns, period, 64, step, true);
+    lists::grid(rows, period, 64, step, false);
+    lists::grid(columns, period, 64, step, true);
     show(10, rows, columns, work, bitmap);
 }
 
@@ -348,29 +331,11 @@ fn show_more() {
     );
 }
 
-// The next number of a generator.
-fn after(x: u32) -> u32
-    ensures { λ r. ⌜ r < 2 ^ 31 ⌝ }
-{
-    ((x as u64 * 1103515245 + 12345) % 2147483648) as u32
-}
-
-// Rows or columns of a board of a height, from a seed.
-fn scatter(list: &mut [u32], height: u32, seed: u32)
-    requires { ⌜ height ≤ 31 ⌝ }
-{
-    let mut x = seed;
-    for i in 0..list.len() {
-        x = after(x);
-        list[i] = x >> (31 - height);
-    }
-}
-
 fn show_scattered(height: u32, seed: u32, rows: &mut [u32], columns: &mut [u32])
     requires { ⌜ (height ≤ 31) × (seed < 1000) ⌝ }
 {
-    scatter(rows, height, seed);
-    scatter(columns, height, seed + 5000);
+    lists::scatter(rows, height, seed);
+    lists::scatter(columns, height, seed + 5000);
     show(height, rows, columns, &mut [7; 1500], &mut [7; 5000]);
 }
 

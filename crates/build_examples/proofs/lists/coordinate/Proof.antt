@@ -2,8 +2,8 @@
 use native.Mathlib.Omega.{arith}
 use native.Mathlib.Nat.{mod-lt}
 use borrow.Author.Needs.{needs}
-use Rattle.build_examples.proofs.coordinate.Statement.{statement}
-use Rattle.build_examples.proofs.coordinate.Tie as tie
+use Rattle.build_examples.proofs.lists.coordinate.Statement.{statement}
+use Rattle.build_examples.proofs.lists.coordinate.Tie as tie
 
 rem-cell : tie.Need-rem-cell
 rem-cell c = search needs

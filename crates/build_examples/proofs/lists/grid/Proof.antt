@@ -3,26 +3,20 @@ use Prim.Native.Nat.{_-_, _≤_}
 use mathlib.Core.Path.{_≡_}
 use lib.ListN.{length}
 use borrow.Author.Needs.{needs}
-use Rattle.build_examples.proofs.scatter.Statement.{statement}
-use Rattle.build_examples.proofs.scatter.Tie as tie
+use Rattle.build_examples.proofs.lists.grid.Statement.{statement}
+use Rattle.build_examples.proofs.lists.grid.Tie as tie
 
 abbrev Inv-loop : tie.InvT-loop
-Inv-loop list₀ height seed x₀ i₀ i-end list x i = (i ≤ i-end) × (length list ≡ i-end)
+Inv-loop list₀ period width step column i₀ i-end list i = (i ≤ i-end) × (length list ≡ i-end)
 
 abbrev μ-loop : tie.MeasureT-loop
-μ-loop list₀ height seed x₀ i₀ i-end list x i = i-end - i
+μ-loop list₀ period width step column i₀ i-end list i = i-end - i
 
 loop-holds : tie.Need-loop-holds Inv-loop μ-loop
 loop-holds c = search needs
 
-after-requires : tie.Need-after-requires Inv-loop μ-loop
-after-requires c κs = search needs
-
-sub-list : tie.Need-sub-list Inv-loop μ-loop
-sub-list c = search needs
-
-shr-list : tie.Need-shr-list Inv-loop μ-loop
-shr-list c = search needs
+coordinate-requires : tie.Need-coordinate-requires Inv-loop μ-loop
+coordinate-requires c κs = search needs
 
 mul-list : tie.Need-mul-list Inv-loop μ-loop
 mul-list c = search needs
@@ -45,16 +39,14 @@ same-length c = search needs
 returns : tie.Need-returns Inv-loop μ-loop
 returns c = search needs
 
-pub scatter-spec : {M : Type 1} → statement M
-scatter-spec =
+pub grid-spec : {M : Type 1} → statement M
+grid-spec =
     tie.close
     (tie.spec
     Inv-loop
     μ-loop
     loop-holds
-    after-requires
-    sub-list
-    shr-list
+    coordinate-requires
     mul-list
     slice-write-list
     add-i
