@@ -21,7 +21,7 @@ use Rattle.search.specs.Keys.{idOf, isBox, isJoint}
 use Rattle.search.specs.Entries.{entryIn, pack}
 use Rattle.search.specs.Question.{trail}
 use Rattle.search.proofs.Visit.{jointsIn, joints-kept, boxes-kept}
-use Rattle.search.proofs.Board.{served-answer, served-trail, served-room, board-entries, trail-begun}
+use Rattle.search.proofs.Board.{served-answer, served-trail, served-room, trail-begun}
 use Rattle.search.proofs.Underway.{Underway, underway-start}
 use Rattle.search.proofs.Boxes.{pending-next, pending-room}
 use Rattle.nearest.specs.declared.step.Tally.{Tally}
@@ -125,21 +125,6 @@ module _ {p : Place} {h : ℕ} {bytes directory : List ℕ} {k room kl cl : ℕ}
         fewer = fewer;
         some = some;
       }
-
-  -- so many steps are left at most
-  pub known-bound : t .opened + t .handed + t .pending ≤ groups h bytes + length (joints h bytes)
-  known-bound =
-      let pend = pendingIn (t .pending) keys corners in
-      omega (
-        arith,
-        boxes-kept (s .left),
-        joints-kept (s .left),
-        s .opened-is,
-        s .handed-is,
-        length-map pend entryIn,
-        pending-long (t .pending) keys corners (s .in-keys) (s .in-corners),
-        board-entries p h bytes (served-groups h bytes (length (joints h bytes)) (groups h bytes) (ready-sound (s .ready))) (s .underway .search),
-      )
 
   -- a step keeps it
   pub known-next : {t′ : Tally} {keys′ corners′ trail′ : List ℕ} → 0 < t .pending → t .handed < k → Stepped p bytes t keys corners trailList t′ keys′ corners′ trail′

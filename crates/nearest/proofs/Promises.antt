@@ -17,8 +17,9 @@ use Rattle.board.specs.Limits.{maxHeight, maxPlace}
 use Rattle.board.specs.Levels.{Box}
 use Rattle.board.proofs.Under.{Within}
 use Rattle.search.specs.Near.{Place, near}
-use Rattle.search.specs.Keys.{distanceOf}
+use Rattle.search.specs.Keys.{key, distanceOf}
 use Rattle.search.specs.Question.{answerKeys, trail}
+use Rattle.search.proofs.Keys.{Fits, Earlier, earlier-less, less-earlier, same-key}
 use Rattle.search.proofs.Near.{near-cell, near-quarter, nearestCell, nearest-within, nearest-near}
 use Rattle.search.proofs.Distances.{maxDistance, answer-near}
 use Rattle.nearest.specs.declared.distance.Place as question
@@ -74,3 +75,11 @@ quarter-no-nearer p s w = near-quarter p s w
 -- the squared distances of an answer are at most 18,264,968
 pub distance-most : (p : Place) → natAbs (p .row) ≤ maxPlace → natAbs (p .col) ≤ maxPlace → (h : ℕ) (bytes : List ℕ) (k : ℕ) → h ≤ maxHeight → Each (λ x. distanceOf x ≤ maxDistance) (answerKeys p h bytes k)
 distance-most p row col h bytes k low = answer-near p row col h bytes k low
+
+-- the order of entries, by distance, a box before a joint, then group number, or row and column, is the order of their keys
+pub keys-in-order : (d d′ : ℕ) {k i k′ i′ : ℕ} → Fits k i → Fits k′ i′ → Earlier d k i d′ k′ i′ ↔ (key d k i < key d′ k′ i′)
+keys-in-order d d′ f f′ = (earlier-less d d′ f f′, less-earlier d d′ f f′)
+
+-- and two entries never tie
+pub keys-never-tie : (d d′ : ℕ) {k i k′ i′ : ℕ} → Fits k i → Fits k′ i′ → key d k i ≡ key d′ k′ i′ → (d ≡ d′) × (k ≡ k′) × (i ≡ i′)
+keys-never-tie d d′ f f′ e = same-key d d′ f f′ e

@@ -9,6 +9,7 @@ ghost use Rattle.nearest.specs.Answers.{zeroAnswer, answerOf, filled, Ha
 use crate::distance;
 use crate::entry;
 
+// A joint of an answer.
 pub struct Answer {
     pub row: u32,
     pub column: u32,
@@ -27,8 +28,8 @@ fn answer_of(key: u64) -> Answer
     }
 }
 
-// What goes to a place of the answer list: a joint's record, and zeros after the n handed out. (The keys are lent as they are to the
-// caller, for writing, and stay as they are.)
+// What goes to a place of the answer list: a joint's record, and zeros after the n handed out. The keys stay as they are; they are lent
+// for writing because their lender has them so, and a walk lends a list on as it has it.
 pub(crate) fn pick(keys: &mut [u64], n: usize, at: usize) -> Answer
     requires { ⌜ Handed n (now keys) ⌝ }
     ensures { λ r. ⌜ (r ≡ getD (map answerOf (handedIn n (now (keys .entry)))) at zeroAnswer) × (now (keys .exit) ≡ now (keys .entry)) ⌝ }

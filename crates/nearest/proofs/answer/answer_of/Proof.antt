@@ -1,3 +1,4 @@
+-- `nearest::answer::answer_of` meets its contract. Assumes nothing.
 use Rattle.nearest.proofs.Answering.{answer-is}
 use mathlib.Core.Path.{_∙_}
 use borrow.Author.Needs.{needs}

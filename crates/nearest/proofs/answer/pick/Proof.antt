@@ -1,3 +1,4 @@
+-- `nearest::answer::pick` meets its contract. Assumes nothing.
 use Rattle.nearest.proofs.Answering.{picked, not-picked}
 use lib.ListN.{length}
 use native.Mathlib.Omega.{arith}

@@ -1,3 +1,4 @@
+-- `nearest::ask::asked` meets its contract. Assumes nothing.
 use Rattle.nearest.proofs.Asks.{may-ask, refused-before, refused-short, asked-refused, asked-found}
 use Rattle.nearest.specs.Asked.{roomsOf}
 use Rattle.nearest.specs.Promise.{passOf}

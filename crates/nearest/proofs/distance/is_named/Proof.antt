@@ -1,3 +1,4 @@
+-- `nearest::distance::is_named` meets its contract. Assumes nothing.
 use Rattle.board.specs.Limits.{maxPlace}
 use lib.IntN.{natAbs}
 use lib.Dec.{leb}

@@ -1,3 +1,4 @@
+-- `nearest::find::find` meets its contract. Assumes nothing.
 use mathlib.Core.Path.{ap, _∙_}
 use lib.ListN.{length, length-replicate}
 use Rattle.nearest.proofs.Beginning.{whole-fits, whole-corner, begins}

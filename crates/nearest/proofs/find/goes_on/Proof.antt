@@ -1,3 +1,4 @@
+-- `nearest::find::goes_on` meets its contract. Assumes nothing.
 use borrow.Author.Tests.{leb-true, leb-false}
 use native.Mathlib.Omega.{arith}
 use mathlib.Core.Logic.{inl, inr}

@@ -1,3 +1,4 @@
+-- `nearest::find::seek` meets its contract. Assumes nothing.
 use Prim.Native.Nat.{_+_, _-_, _^_}
 use native.Mathlib.Omega.{arith}
 use lib.ListN.{length}

@@ -1,3 +1,4 @@
+-- `nearest::gate::may_ask` meets its contract. Assumes nothing.
 use Rattle.board.proofs.Asking.{asked-refused, asked-served, asked-sound}
 use Rattle.board.specs.Numbers.{numbersOf}
 use mathlib.Core.Path.{sym, ap, _∙_}

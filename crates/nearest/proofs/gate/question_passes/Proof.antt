@@ -1,3 +1,4 @@
+-- `nearest::gate::question_passes` meets its contract. Assumes nothing.
 use Rattle.nearest.specs.Places.{inRange}
 use Prim.Native.Nat.{max}
 use native.Mathlib.Omega.{arith}

@@ -1,3 +1,4 @@
+-- `nearest::open::add_ones` meets its contract. Assumes nothing.
 use Rattle.board.specs.Under.{quarter}
 use Rattle.nearest.proofs.Quarter.{quarter-fits, quarter-corner, quarters-none, quarters-more, quarters-all}
 use Prim.Native.Nat.{suc, _+_, _-_, _^_, _≤_}

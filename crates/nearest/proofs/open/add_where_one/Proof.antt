@@ -1,3 +1,4 @@
+-- `nearest::open::add_where_one` meets its contract. Assumes nothing.
 use Rattle.nearest.specs.Places.{placeOf}
 use Rattle.nearest.proofs.Packing.{joined-none, joined-one}
 use native.Mathlib.Omega.{arith}

@@ -1,3 +1,4 @@
+-- `nearest::open::entered` meets its contract. Assumes nothing.
 use Rattle.nearest.proofs.Packing.{packs-joint, packs-box, corner-room}
 use Rattle.signed.proofs.Signed.{back}
 use native.Mathlib.Nat.{one-le-pow}

@@ -1,3 +1,4 @@
+-- `nearest::open::open_box` meets its contract. Assumes nothing.
 use Rattle.nearest.proofs.Quarter.{kids-by-bits}
 use borrow.Author.Needs.{needs}
 use Rattle.nearest.proofs.open.open_box.Statement.{statement}

@@ -1,3 +1,4 @@
+-- `nearest::open::shifted` meets its contract. Assumes nothing.
 use native.Mathlib.Nat.{zero-mul, one-mul}
 use native.Mathlib.Omega.{arith}
 use mathlib.Core.Path.{_≡_}

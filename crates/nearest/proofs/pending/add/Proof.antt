@@ -1,3 +1,4 @@
+-- `nearest::pending::add` meets its contract. Assumes nothing.
 use Rattle.nearest.proofs.Lists.{added-one}
 use native.Mathlib.Omega.{arith}
 use borrow.Author.Needs.{needs}

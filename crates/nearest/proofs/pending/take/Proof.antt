@@ -1,3 +1,4 @@
+-- `nearest::pending::take` meets its contract. Assumes nothing.
 use Rattle.nearest.proofs.Lists.{taken}
 use native.Mathlib.Omega.{arith}
 use borrow.Author.Needs.{needs}

@@ -1,3 +1,4 @@
+-- `nearest::step::join` meets its contract. Assumes nothing.
 use lib.Seq.{set-out}
 use mathlib.Core.Path.{sym}
 use borrow.Author.Needs.{needs}

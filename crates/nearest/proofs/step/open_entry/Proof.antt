@@ -1,3 +1,4 @@
+-- `nearest::step::open_entry` meets its contract. Assumes nothing.
 use Rattle.nearest.proofs.Entering.{entry-opens, entry-corner, entry-kids}
 use Rattle.search.specs.Entries.{entryOf}
 use borrow.Author.Needs.{needs}

@@ -1,3 +1,4 @@
+-- `nearest::step::step_core` meets its contract. Assumes nothing.
 use mathlib.Core.Path.{_≡_}
 use native.Mathlib.Omega.{arith}
 use Rattle.nearest.proofs.Steps.{step-room, step-box, ones-room, tally-small, stepped-joint, stepped-box, kind-joint, kind-box}
