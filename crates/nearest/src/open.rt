@@ -18,9 +18,6 @@ use crate::pending;
 use crate::pending::Entry;
 use bitmap::GroupNo;
 
-// What a row, and the levels of a box, are worth in a corner.
-const ROWS: u32 = 4096;
-
 // The entry of a box with so many levels at a corner; with none it is a joint.
 pub(crate) fn entered(p: Place, level: u32, g: GroupNo, row: u32, column: u32) -> Entry
     requires { ⌜ (Named p) × (Fits level row column) ⌝ }
@@ -35,7 +32,7 @@ pub(crate) fn entered(p: Place, level: u32, g: GroupNo, row: u32, column: u32) -
     }
     Entry {
         key: entry::box_key(d, g),
-        corner: (level * ROWS + row) * ROWS + column,
+        corner: entry::corner_of(level, row, column),
     }
 }
 

@@ -25,21 +25,12 @@ returns c = let a = c .before .before .before .before .before .before .args in
 box-key-requires : tie.Need-box-key-requires
 box-key-requires c κs = search needs
 
-mul-t7 : tie.Need-mul-t7
-mul-t7 c = omega (arith, corner-room (c .before .before .before .before .before .before .pre .1))
-
-add-t11 : tie.Need-add-t11
-add-t11 c = omega (arith, corner-room (c .before .before .before .before .before .before .pre .1))
-
-mul-t12 : tie.Need-mul-t12
-mul-t12 c = omega (arith, corner-room (c .before .before .before .before .before .before .pre .1))
-
-add-t13 : tie.Need-add-t13
-add-t13 c = omega (arith, corner-room (c .before .before .before .before .before .before .pre .1))
+corner-of-requires : tie.Need-corner-of-requires
+corner-of-requires c κs = corner-room (c .before .before .before .before .before .before .pre .1)
 
 returns-2 : tie.Need-returns-2
-returns-2 c = let a = c .before .before .before .before .before .before .args in
-    λ b at. packs-box _ (a .g .0) (a .row) (a .column) (c .box-key .result) b (a .level) _ (c .before .if1 .left) at (rw (back (a .p .row) (omega arith), back (a .p .column) (omega arith), c .before .before .before .before .before .side .ensures) at (c .before .before .near .ensures)) (c .box-key .ensures)
+returns-2 c = let a = c .before .before .before .before .before .before .before .args in
+    λ b at. rw (c .corner-of .ensures) (packs-box _ (a .g .0) (a .row) (a .column) (c .before .box-key .result) b (a .level) _ (c .before .before .if1 .left) at (rw (back (a .p .row) (omega arith), back (a .p .column) (omega arith), c .before .before .before .before .before .before .side .ensures) at (c .before .before .before .near .ensures)) (c .before .box-key .ensures))
 
 pub entered-spec : {M : Type 1} → statement M
 entered-spec =
@@ -50,8 +41,5 @@ entered-spec =
     joint-key-requires
     returns
     box-key-requires
-    mul-t7
-    add-t11
-    mul-t12
-    add-t13
+    corner-of-requires
     returns-2)
