@@ -5,3 +5,4 @@ pub mod Shape
 pub mod Filling
 pub mod Reading
 pub mod Theorems
+pub mod Served

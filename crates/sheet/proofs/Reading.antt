@@ -1,34 +1,31 @@
 -- Reading a sheet: the joints' codes are those of its cells, and what is built from them is its board.
-use Prim.Native.Nat.{ℕ, zero, suc, _+_, _*_, _^_, _≤_, _<_}
-use mathlib.Core.Bool.{Bool, true, false}
+use Prim.Native.Nat.{ℕ, zero, suc, _^_, _≤_, _<_}
 use mathlib.Core.Path.{_≡_, refl, sym, ap, _∙_}
 use mathlib.Core.List.{List, [], _∷_, _++_, map, map-append}
 use native.Mathlib.Omega.{arith}
-use lib.ListN.{length, getD, take, drop, replicate, length-replicate}
+use lib.ListN.{length, take, drop, replicate, length-replicate}
 use lib.Seq.{take-suc, take-all, take-at}
-use lib.Dec.{leb}
 use borrow.Author.Tests.{le-leb, lt-leb}
 use Rattle.refusal.specs.declared.Refusal.{Refusal}
 use Rattle.refusal.specs.declared.Refusal.the-variants.{WorkRoom}
 use Rattle.refusal.specs.Numbers.{numberOf}
-use Rattle.refusal.specs.Answer.{Answer, Served, Refused, _unless_, leftIn}
+use Rattle.refusal.specs.Answer.{leftIn}
 use Rattle.order.proofs.Sets.{In}
-use Rattle.board.specs.Limits.{maxHeight}
 use Rattle.board.specs.Levels.{Box}
 use Rattle.board.specs.Code.{codeOf}
 use Rattle.build.specs.declared.Built.{Built}
 use Rattle.build.specs.declared.Built.the-variants.{Board as BoardBuilt, Refused as NotBuilt}
 use Rattle.build.specs.Build.{bitmapOfCodes, bitmapOf}
 use Rattle.build.specs.Answers.{codesBuiltOf}
-use Rattle.build.specs.Promise.{builtNumbers, Kept}
+use Rattle.build.specs.Promise.{Kept}
 use Rattle.build.proofs.Building.{codes-small}
 use Rattle.sheet.specs.declared.Sheeted.the-variants.{Board, Refused as Turned}
 use Rattle.sheet.specs.declared.record.Record.{Record}
-use Rattle.sheet.specs.Sheet.{Verdict, Accepted, RefusedAt, offset, _onward_, sheetOf, heightIn, cellsIn, jointOffset, afterJoints}
+use Rattle.sheet.specs.Sheet.{Verdict, Accepted, RefusedAt, offset, _onward_, sheetOf, heightIn, cellsIn, jointOffset}
 use Rattle.sheet.specs.Scan.{scanOf}
 use Rattle.sheet.specs.Codes.{codeAt, codesAt}
-use Rattle.sheet.specs.Promise.{boardOf, readOf, bitmapIn, answerIn, Promise}
-use Rattle.sheet.proofs.Shape.{Shaped, sheet-shape, not-accepted, went-onward}
+use Rattle.sheet.specs.Promise.{boardOf, readOf, bitmapIn, Promise}
+use Rattle.sheet.proofs.Shape.{sheet-shape, not-accepted, went-onward}
 use Rattle.sheet.proofs.Filling.{length-codes}
 
 module _ (sheet : List ℕ) (rs : List Record) (e : sheetOf sheet ≡ Accepted rs) where

@@ -1,21 +1,20 @@
 -- One record: its kind by its byte, and the tests in their order.
 use Prim.Native.Nat.{ℕ, _+_, _-_, _≤_, _<_}
 use mathlib.Core.Bool.{Bool, true, false, cond, _&&_}
-use mathlib.Core.Path.{_≡_, refl, ap}
+use mathlib.Core.Path.{_≡_, refl}
 use mathlib.Core.List.{List}
 use native.Mathlib.Omega.{arith}
 use lib.ListN.{length, getD, take, drop, length-drop}
 use lib.Seq.{take-all}
 use lib.Dec.{leb, eqb}
-use borrow.Author.Tests.{le-leb, lt-leb, leb-true}
-use Rattle.refusal.specs.Answer.{Answer, Served, Refused, _unless_, _then_, _into_}
+use borrow.Author.Tests.{le-leb, lt-leb}
+use Rattle.refusal.specs.Answer.{Answer, Served, Refused, _into_}
 use Rattle.refusal.proofs.Answers.{not-both, passed}
 use Rattle.board.specs.Limits.{maxHeight}
 use Rattle.board.specs.Member.{onBoard}
 use Rattle.sheet.specs.declared.kind.Kind.{Kind}
 use Rattle.sheet.specs.declared.kind.Kind.the-variants.{Board, Joint, Question, Window, End}
 use Rattle.sheet.specs.declared.kind.Stage.{Stage}
-use Rattle.sheet.specs.declared.kind.Known.{Known}
 use Rattle.sheet.specs.declared.kind.Known.the-variants.{Body, Nothing}
 use Rattle.sheet.specs.declared.record.Record.{Record}
 use Rattle.sheet.specs.declared.record.Record.the-variants.{Board as BoardOf, Joint as JointAt, Question as Ask, Window as Within, End as Ended}

@@ -5,12 +5,12 @@ use mathlib.Core.Path.{_≡_, refl, sym, ap, _∙_}
 use mathlib.Core.List.{List, [], _∷_, _++_}
 use native.Mathlib.Omega.{arith}
 use lib.ListN.{length, getD, drop, length-append}
-use lib.Dec.{leb, ltb, eqb}
+use lib.Dec.{leb}
 use borrow.Author.Tests.{le-leb, lt-leb, leb-true, lt-ltb, le-ltb, eq-eqb, ne-eqb}
 use Rattle.refusal.specs.declared.Refusal.{Refusal}
 use Rattle.refusal.specs.declared.Refusal.the-variants.{End as NoEnd}
 use Rattle.refusal.specs.Numbers.{numberOf}
-use Rattle.refusal.specs.Answer.{Answer, Served, Refused, _unless_, _then_, _into_}
+use Rattle.refusal.specs.Answer.{Answer, Served, Refused, _unless_, _then_}
 use Rattle.refusal.proofs.Answers.{not-both, passed}
 use Rattle.board.specs.Limits.{maxHeight}
 use Rattle.sheet.specs.declared.kind.Kind.{Kind}
@@ -24,7 +24,7 @@ use Rattle.sheet.specs.declared.scan.Scanned.the-variants.{Sheet, Refuse
 use Rattle.sheet.specs.declared.scan.Going.the-variants.{On, Off}
 use Rattle.sheet.specs.Kinds.{kindOf, bodyLength, inPlace, stageAfter}
 use Rattle.sheet.specs.Records.{bodyOf, recordAt, kindIn, nextAfter, withNext}
-use Rattle.sheet.specs.Sheet.{Verdict, Accepted, RefusedAt, offset, _onward_, heightAfter, withRest, records, sheetOf, maxSheet, heightIn, cellIn, cellsIn}
+use Rattle.sheet.specs.Sheet.{Verdict, Accepted, RefusedAt, _onward_, heightAfter, withRest, records, sheetOf, maxSheet, heightIn, cellIn, cellsIn}
 use Rattle.sheet.specs.Scan.{scannedOf, scanOf, isEnd, startPlace, placeAfter, from, Ahead, Stepped}
 use Rattle.sheet.proofs.Recording.{went-into, kind-of-body}
 

@@ -1,13 +1,13 @@
 -- An accepted sheet: its records stand one after the other, the board, the joints, the requests and the end, each where it is read.
 use Prim.Native.Nat.{ℕ, zero, suc, _+_, _*_, _≤_, _<_}
-use mathlib.Core.Bool.{Bool, true, false, not, _&&_}
+use mathlib.Core.Bool.{Bool, true, false, _&&_}
 use mathlib.Core.Path.{_≡_, refl, sym, ap, _∙_}
-use mathlib.Core.List.{List, [], _∷_, _++_}
+use mathlib.Core.List.{List, [], _∷_}
 use native.Mathlib.Omega.{arith}
 use lib.ListN.{length, getD, drop}
 use lib.Dec.{leb, ltb, eqb}
-use borrow.Author.Tests.{le-leb, leb-true, ltb-true, eqb-true}
-use Rattle.refusal.specs.Answer.{Answer, Served, Refused, _unless_, _then_}
+use borrow.Author.Tests.{leb-true, eqb-true}
+use Rattle.refusal.specs.Answer.{Answer, Served, Refused, _unless_}
 use Rattle.refusal.proofs.Answers.{passed}
 use Rattle.board.specs.Limits.{maxHeight}
 use Rattle.board.specs.Levels.{Box}
@@ -16,12 +16,12 @@ use Rattle.sheet.specs.declared.kind.Stage.{Stage}
 use Rattle.sheet.specs.declared.kind.Stage.the-variants.{Start, Joints, Requests}
 use Rattle.sheet.specs.declared.record.Record.{Record}
 use Rattle.sheet.specs.declared.record.Record.the-variants.{Board, Joint, Question, Window, End}
-use Rattle.sheet.specs.Kinds.{inPlace, bodyLength, stageAfter}
+use Rattle.sheet.specs.Kinds.{inPlace, stageAfter}
 use Rattle.sheet.specs.Records.{bodyOf, recordAt, kindIn, nextAfter}
 use Rattle.sheet.specs.Sheet.{Verdict, Accepted, RefusedAt, offset, _onward_, heightAfter, withRest, records, sheetOf, maxSheet, heightIn, cellIn, cellsIn, jointOffset, afterJoints, requestsIn}
 use Rattle.sheet.specs.Scan.{isEnd}
 use Rattle.sheet.proofs.Recording.{by-body}
-use Rattle.sheet.proofs.Scanning.{ReadAs, read-as, before-rest, end-is}
+use Rattle.sheet.proofs.Scanning.{read-as, before-rest, end-is}
 
 -- records stand in a sheet from a place on, on a board of height h, up to its end
 pub data Stand (sheet : List ℕ) : Stage → ℕ → ℕ → List Record → Type 0 where
@@ -38,7 +38,7 @@ went-onward (Accepted x) f e go = go x refl e
 went-onward (RefusedAt n at) f e go = not-accepted e
 
 -- an answer that is accepted was served, and a test was passed
-was-served : {A : Type 0} (at : ℕ) (a : Answer A) (x : A) → offset at a ≡ Accepted x → a ≡ Served x
+pub was-served : {A : Type 0} (at : ℕ) (a : Answer A) (x : A) → offset at a ≡ Accepted x → a ≡ Served x
 was-served at (Served y) x e = let same : y ≡ x = cc in rw same
 was-served at (Refused n) x e = not-accepted e
 
@@ -146,7 +146,7 @@ requests-stand sheet (more {h = h} {at = at} {rs = rs} (Window a b c d) go e res
 requests-stand sheet (more End go e rest) = fails (sym go)
 
 -- where records stand there is a byte
-stand-within : (sheet : List ℕ) (stage : Stage) {h at : ℕ} {rs : List Record} → Stand sheet stage h at rs → at < length sheet
+pub stand-within : (sheet : List ℕ) (stage : Stage) {h at : ℕ} {rs : List Record} → Stand sheet stage h at rs → at < length sheet
 unfolding kindIn
 stand-within sheet stage (last e f) = omega arith
 stand-within sheet stage (more {h = h} {at = at} r go e rest) = omega (arith, read-as stage h sheet at r e .long)
@@ -193,3 +193,23 @@ unfolding sheetOf
 sheet-shape sheet rs e =
     went-onward (offset 0 (19 unless leb (length sheet) maxSheet)) _ e λ t k f.
     shape sheet (leb-true (length sheet) maxSheet (was-passed 0 19 (leb (length sheet) maxSheet) t k)) (accepted-stand (length sheet) Start 0 sheet 0 rs f)
+
+-- a report goes from request to request: the first of the records that stand at a place is read there
+pub stand-first : (sheet : List ℕ) {stage : Stage} {h at : ℕ} {r : Record} {rs : List Record} → Stand sheet stage h at (r ∷ rs) → recordAt stage h sheet at ≡ Served r
+stand-first sheet (last e f) = e
+stand-first sheet (more r go e rest) = e
+
+-- the requests after one that is not the end stand at the next offset
+pub stand-next : (sheet : List ℕ) {h at : ℕ} {r : Record} {rs : List Record} → Stand sheet Requests h at (r ∷ rs) → isEnd r ≡ false → Stand sheet Requests h (nextAfter at r) rs
+unfolding kindIn heightAfter
+stand-next sheet (last e f) go = fails (sym go)
+stand-next sheet (more {h = h} {at = at} (Board k) i e rest) go = fails (read-as Requests h sheet at (Board k) e .stands)
+stand-next sheet (more {h = h} {at = at} (Joint r c) i e rest) go = fails (read-as Requests h sheet at (Joint r c) e .stands)
+stand-next sheet (more (Question k r c) i e rest) go = rest
+stand-next sheet (more (Window a b c d) i e rest) go = rest
+stand-next sheet (more End i e rest) go = fails (sym i)
+
+-- and none stands after the end
+pub stand-end : (sheet : List ℕ) {h at : ℕ} {rs : List Record} → Stand sheet Requests h at (End ∷ rs) → rs ≡ []
+stand-end sheet (last e f) = refl
+stand-end sheet (more End i e rest) = fails (sym i)

@@ -1,28 +1,25 @@
 -- What reading a sheet is worth: one result, a valid board, and the room that is always enough.
-use Prim.Native.Nat.{ℕ, _+_, _*_, _≤_, _<_}
-use mathlib.Core.Path.{_≡_, refl, sym, ap, _∙_}
-use mathlib.Core.List.{List, [], _∷_, _++_, map}
+use Prim.Native.Nat.{ℕ, _≤_, _<_}
+use mathlib.Core.Path.{_≡_, sym, _∙_}
+use mathlib.Core.List.{List, [], _∷_, map}
 use native.Mathlib.Omega.{arith}
 use lib.ListN.{length}
-use lib.Dec.{leb}
-use borrow.Author.Tests.{le-leb, lt-leb, leb-true}
-use Rattle.refusal.specs.Answer.{Answer, Served, Refused, _unless_, _then_}
+use borrow.Author.Tests.{le-leb, lt-leb}
 use Rattle.refusal.proofs.Numbers.{one-to-twenty}
 use Rattle.board.specs.Limits.{maxJoints}
-use Rattle.board.specs.Levels.{Box, joints, groups}
+use Rattle.board.specs.Levels.{joints, groups}
 use Rattle.board.specs.Code.{codeOf}
 use Rattle.board.specs.Valid.{Valid}
 use Rattle.board.proofs.Codes.{decode}
-use Rattle.order.specs.Order.{sort}
 use Rattle.build.specs.Build.{onceEach, setOf, bitmapOfCodes, bitmapOf}
 use Rattle.build.specs.Answers.{codesBuiltOf}
 use Rattle.build.proofs.Theorems.{built-valid, built-joints, built-fits}
 use Rattle.sheet.specs.declared.Sheeted.{Sheeted}
 use Rattle.sheet.specs.declared.Sheeted.the-variants.{Board, Refused as Turned}
 use Rattle.sheet.specs.declared.record.Record.{Record}
-use Rattle.sheet.specs.Sheet.{Verdict, Accepted, RefusedAt, offset, _onward_, maxSheet, sheetOf, heightIn, cellsIn, afterJoints}
+use Rattle.sheet.specs.Sheet.{Accepted, RefusedAt, maxSheet, sheetOf, heightIn, cellsIn, afterJoints}
 use Rattle.sheet.specs.Promise.{sheetedOf, boardOf, readOf, bitmapIn, Promise}
-use Rattle.sheet.proofs.Shape.{Shaped, sheet-shape, not-accepted}
+use Rattle.sheet.proofs.Shape.{sheet-shape, not-accepted}
 
 -- an answer in numbers is one answer
 pub numbers-one : (r s : Sheeted) → sheetedOf r ≡ sheetedOf s → r ≡ s

@@ -1,7 +1,7 @@
 // One record of a joint sheet: its kind, and what its body says.
 ghost use mathlib.Core.Path.{_≡_};
 ghost use Prim.Native.Nat.{_+_, _≤_, _<_};
-ghost use lib.ListN.{length, take, drop};
+ghost use lib.ListN.{length};
 ghost use Rattle.board.specs.Limits.{maxHeight};
 ghost use Rattle.sheet.specs.Kinds.{bodyLength};
 ghost use Rattle.sheet.specs.Records.{measureAt, markedAt, bodyOf, recordAt, withNext};

@@ -1,8 +1,7 @@
 -- The loop fills place by place, and goes from joint record to joint record.
-use Prim.Native.Nat.{_-_, _≤_, _<_}
+use Prim.Native.Nat.{_-_, _≤_}
 use mathlib.Core.Path.{_≡_}
 use native.Mathlib.Omega.{arith}
-use lib.ListN.{length}
 use borrow.Author.Needs.{needs}
 use Rattle.sheet.proofs.Filling.{Filled, filled-start, filled-step}
 use Rattle.sheet.proofs.codes.fill.Statement.{statement}

@@ -1,12 +1,11 @@
 -- The record's kind, its place, its length, then its body: the first that is refused is the answer.
-use Prim.Native.Nat.{_+_, _≤_, _<_}
-use mathlib.Core.Path.{_≡_, refl, sym, ap, _∙_}
+use mathlib.Core.Path.{_≡_, sym, ap, _∙_}
 use native.Mathlib.Omega.{arith}
-use lib.ListN.{length, getD}
+use lib.ListN.{getD}
 use borrow.Author.Needs.{needs}
 use borrow.Author.Tests.{not-true, not-false}
 use Rattle.sheet.specs.Answers.{saidOf}
-use Rattle.sheet.specs.Kinds.{kindOf, bodyLength}
+use Rattle.sheet.specs.Kinds.{kindOf}
 use Rattle.sheet.proofs.Recording.{known-body, known-nothing, no-kind, out-of-place, cut-short, recorded, not-recorded}
 use Rattle.sheet.proofs.record.record_at.Statement.{statement}
 use Rattle.sheet.proofs.record.record_at.Tie as tie

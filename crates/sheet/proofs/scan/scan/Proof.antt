@@ -5,7 +5,6 @@ use native.Mathlib.Omega.{arith}
 use lib.ListN.{length}
 use borrow.Author.Needs.{needs}
 use Rattle.sheet.specs.Sheet.{maxSheet}
-use Rattle.sheet.specs.Scan.{Stepped}
 use Rattle.sheet.proofs.Scanning.{Scanning, scanning-start, scan-too-long, scanning-on, scanning-off, scanning-none}
 use Rattle.sheet.proofs.scan.scan.Statement.{statement}
 use Rattle.sheet.proofs.scan.scan.Tie as tie
