@@ -6,3 +6,4 @@ pub mod Filling
 pub mod Reading
 pub mod Theorems
 pub mod Served
+pub mod Refusals

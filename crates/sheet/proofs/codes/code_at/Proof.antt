@@ -1,5 +1,5 @@
 -- The code of what is read.
-use mathlib.Core.Path.{_≡_, sym, ap, _∙_}
+use mathlib.Core.Path.{sym, ap, _∙_}
 use borrow.Author.Needs.{needs}
 use Rattle.sheet.specs.declared.kind.Stage.the-variants.{Joints}
 use Rattle.sheet.specs.Records.{recordAt}

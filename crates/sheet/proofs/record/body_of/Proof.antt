@@ -1,5 +1,4 @@
 -- By its kind, what the body of that kind says.
-use mathlib.Core.Path.{_≡_}
 use native.Mathlib.Omega.{arith}
 use borrow.Author.Needs.{needs}
 use Rattle.board.specs.Limits.{maxHeight}

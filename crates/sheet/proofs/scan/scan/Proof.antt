@@ -1,6 +1,6 @@
 -- The loop: what is left to do from a place gives the whole answer, and each step goes farther on.
 use Prim.Native.Nat.{_-_}
-use mathlib.Core.Path.{_≡_, refl}
+use mathlib.Core.Path.{refl}
 use native.Mathlib.Omega.{arith}
 use lib.ListN.{length}
 use borrow.Author.Needs.{needs}
