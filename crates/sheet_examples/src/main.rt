@@ -17,14 +17,10 @@ const BITMAP_ROOM: usize = 9000;
 // The bytes before a sheet: the work room, the bitmap's room and the sheet's length, four bytes each.
 const HEAD: usize = 12;
 
-fn say(text: &[u8]) {
-    io::write_all(1, text);
-}
-
 // A number and the space after it.
 fn say_number(n: u64) {
     io::print_decimal(1, n);
-    say(b" ");
+    say::text(b" ");
 }
 
 fn say_small(n: u32) {
@@ -45,7 +41,7 @@ fn say_bitmap(bitmap: &[u8], long: usize) {
         if i < long {
             say_byte(bitmap[i]);
         } else if bitmap[i] != 0 {
-            say(b" bitmap left dirty");
+            say::text(b" bitmap left dirty");
         }
     }
 }
@@ -54,7 +50,7 @@ fn say_bitmap(bitmap: &[u8], long: usize) {
 fn say_work(work: &[u32]) {
     for i in 0..work.len() {
         if work[i] != 0 {
-            say(b" work list left dirty");
+            say::text(b" work list left dirty");
         }
     }
 }
@@ -62,7 +58,7 @@ fn say_work(work: &[u32]) {
 fn say_refused(refusal: Refusal, offset: usize, bitmap: &[u8]) {
     say_small(refusal.number());
     say_places(offset);
-    say(b"0 0 0 0 0 -");
+    say::text(b"0 0 0 0 0 -");
     say_bitmap(bitmap, 0);
 }
 
@@ -75,7 +71,7 @@ fn say_answer(answer: Sheeted, bitmap: &[u8]) {
             length,
             requests,
         } => {
-            say(b"0 0 ");
+            say::text(b"0 0 ");
             say_small(height);
             say_small(joints);
             say_small(boxes);
@@ -132,7 +128,7 @@ fn read_sheet(bytes: &[u8], work: &mut [u32], bitmap: &mut [u8]) {
     let answer = sheet::read(bytes, work, bitmap);
     say_answer(answer, bitmap);
     say_work(work);
-    say(b"\n");
+    say::text(b"\n");
 }
 
 // So many bytes of the stream into the first places; false where it ends.
