@@ -322,7 +322,7 @@ fn streams(results: &mut Results) {
         ("measure", texts::stream(300, 5), batch::measure_line, &[0, 13]),
         ("build", calls::build_stream(300, 5), batch::build_line, &[0, 1, 5, 10, 12, 18, 20]),
         ("sheet", calls::sheet_stream(300, 5), batch::sheet_line, &[0, 1, 5, 10, 12, 13, 14, 15, 16, 17, 18, 19]),
-        ("nearest", calls::nearest_stream(300, 5), batch::nearest_line, &[0, 7, 8, 9, 10, 11]),
+        ("nearest", calls::nearest_stream(300, 5), batch::nearest_line, &[0, 1, 2, 3, 4, 5, 7, 8, 9, 10, 11]),
     ];
     for (name, stream, line, wanted) in answers {
         let text = batch::answer_all(&stream, line).unwrap_or_else(|error| error);

@@ -2,7 +2,7 @@
 
 use crate::batch::Writer;
 use crate::board::{bitmap, cell, Cell};
-use crate::generate::{boards, crowded, pattern, sheets};
+use crate::generate::{boards, crowded, pattern, questions, sheets};
 use crate::random::Random;
 use crate::rules::*;
 use crate::sheet;
@@ -85,7 +85,7 @@ pub fn sheet_stream(count: usize, seed: u64) -> Vec<u8> {
     writer.stream
 }
 
-/// The stream of the crowded boards and `count` random questions, for nearest.
+/// The stream of the crowded boards, the fixed questions and `count` random ones, for nearest.
 pub fn nearest_stream(count: usize, seed: u64) -> Vec<u8> {
     let mut random = Random::new(seed);
     let mut writer = Writer::default();
@@ -93,28 +93,19 @@ pub fn nearest_stream(count: usize, seed: u64) -> Vec<u8> {
         let joints = crowd.joints;
         let bytes = bitmap(MAX_HEIGHT, &joints.iter().copied().collect()).bytes;
         for trail_room in [TRAIL_ROOM - 1, TRAIL_ROOM, 2 * TRAIL_ROOM] {
-            writer.number(MAX_HEIGHT);
-            writer.counted_bytes(&bytes);
-            question(&mut writer, crowded::PLACE, MAX_K, [MAX_K as usize, joints.len(), trail_room]);
+            let rooms = [MAX_K as usize, joints.len(), trail_room];
+            questions::case(&mut writer, MAX_HEIGHT, &bytes, (crowded::PLACE, MAX_K), rooms);
         }
     }
+    questions::fixed(&mut writer);
     for _ in 0..count {
         nearest_case(&mut random, &mut writer);
     }
     writer.stream
 }
 
-fn question(writer: &mut Writer, place: Cell, k: u32, rooms: [usize; 3]) {
-    writer.signed(place.row);
-    writer.signed(place.col);
-    writer.number(k);
-    rooms.into_iter().for_each(|room| writer.count(room));
-}
-
 fn nearest_case(random: &mut Random, writer: &mut Writer) {
     let (height, joints, bytes) = boards::right(random);
-    writer.number(height);
-    writer.counted_bytes(&bytes);
     let mut place = sheets::any_place(random, height, &joints);
     if random.one_in(12) {
         let far = random.within(MAX_PLACE - 1..=MAX_PLACE + 2);
@@ -124,5 +115,5 @@ fn nearest_case(random: &mut Random, writer: &mut Writer) {
     let distinct = joints.iter().collect::<std::collections::BTreeSet<_>>().len();
     let trail = random.below(2 * bytes.len() + 1);
     let rooms = [about(random, k as usize), about(random, distinct.max(1)), *random.pick(&[trail, 2 * bytes.len()])];
-    question(writer, place, k, rooms);
+    questions::case(writer, height, &bytes, (place, k), rooms);
 }

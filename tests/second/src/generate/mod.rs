@@ -6,6 +6,7 @@ pub mod calls;
 pub mod crowded;
 pub mod damage;
 pub mod pattern;
+pub mod questions;
 pub mod records;
 pub mod sheets;
 pub mod texts;
