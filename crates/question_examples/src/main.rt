@@ -1,8 +1,7 @@
 // Questions about boards: those of the rooms of each list by hand, then the cases of the stream on standard input. One line for each:
 // number found opened, then row, column and squared distance of each joint found, then the trail; `left` and a count only where something
 // that must be zero is not.
-ghost use Prim.Native.Nat.{_≤_, _<_, _+_, _*_, _^_};
-ghost use lib.ListN.{length};
+ghost use Prim.Native.Nat.{_≤_, _<_, _^_};
 use crate::answers::ROOM;
 use crate::answers::asked;
 use crate::stream::Case;

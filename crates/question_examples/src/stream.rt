@@ -1,6 +1,5 @@
 // The cases of a stream: numbers of four bytes, least significant first.
-ghost use Prim.Native.Nat.{_+_, _<_, _≤_, _^_};
-ghost use lib.ListN.{length};
+ghost use Prim.Native.Nat.{_+_, _<_, _^_};
 
 // A question of the stream; its bytes are named by their place in it.
 pub(crate) struct Case {
