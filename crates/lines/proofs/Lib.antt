@@ -3,3 +3,5 @@ pub mod Putting
 pub mod Inside
 pub mod Room
 pub mod Windows
+pub mod Asking
+pub mod Questions

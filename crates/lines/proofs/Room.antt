@@ -1,10 +1,12 @@
 -- How long lines are at most, for numbers of 32 bits: ten digits each.
 use Prim.Native.Nat.{ℕ, zero, suc, _+_, _*_, _^_, _≤_, _<_}
 use mathlib.Core.Path.{_≡_}
-use mathlib.Core.List.{List, [], _∷_, flatMap}
+use mathlib.Core.List.{List, [], _∷_, map, flatMap}
 use native.Mathlib.Omega.{arith}
 use lib.ListN.{length, length-append, getD, take}
 use Rattle.lines.specs.Text.{Line, field, bytesOf, textOf}
+use Rattle.search.specs.Keys.{rowOf, colOf, distanceOf}
+use Rattle.lines.specs.Report.{keyLine}
 use Rattle.lines.specs.Lines.{inLine, inLines}
 use Rattle.lines.proofs.Digits.{length-decimal}
 
@@ -55,3 +57,11 @@ ins-short [] columns h k = omega arith
 ins-short (r ∷ rows) [] h k = omega arith
 ins-short (r ∷ rows) (c ∷ columns) h k =
     rw length-append (omega (arith, line-short (inLine r c) (two-words r c (h 0) (k 0)), ins-short rows columns (λ i. h (suc i)) (λ i. k (suc i))))
+
+-- the joints found
+pub keys-short : (l : List ℕ) → ((i : ℕ) → i < length l → distanceOf (getD l i 0) < 2 ^ 32) → length (textOf (map keyLine l)) ≤ 36 * length l
+unfolding textOf flatMap
+keys-short [] h = omega arith
+keys-short (x ∷ l) h =
+    let line = line-short (keyLine x) (three-words (rowOf x) (colOf x) (distanceOf x) (omega arith) (omega arith) (h 0 (omega arith))) in
+    rw length-append (omega (arith, line, keys-short l (λ i j. h (suc i) (omega arith))))

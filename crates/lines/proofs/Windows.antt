@@ -40,7 +40,7 @@ window-room h bytes d w rows columns n e =
     served-room (length (found w h bytes)) n rows columns (passed 12 fit last (ranked .1) .1)
 
 -- a list in which so much was found begins with it
-left-begins : (m n : ℕ) (found : List ℕ) (room : ℕ) → n ≡ length found → take n (leftIn (Served m) found room) ≡ found
+pub left-begins : {A : Type 0} (m : A) (n : ℕ) (found : List ℕ) (room : ℕ) → n ≡ length found → take n (leftIn (Served m) found room) ≡ found
 unfolding leftIn
 left-begins m n found room e = take-at found (replicate (room - length found) 0) n (sym e)
 

@@ -1,4 +1,5 @@
 // The report of a joint sheet: its lines, as bytes in a lent buffer.
 pub mod line;
+mod question;
 pub mod record;
 pub mod text;

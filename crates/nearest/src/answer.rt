@@ -17,7 +17,7 @@ pub struct Answer {
 }
 
 // The record of a joint's key.
-fn answer_of(key: u64) -> Answer
+pub fn answer_of(key: u64) -> Answer
     requires { ⌜ distanceOf key < 2 ^ 32 ⌝ }
     ensures { λ r. ⌜ r ≡ answerOf key ⌝ }
 {

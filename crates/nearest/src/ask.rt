@@ -26,7 +26,7 @@ pub(crate) fn joints_of(r: Nearest) -> usize
 }
 
 // The question without its answer list, of which it takes the room alone.
-pub(crate) fn asked(
+pub fn asked(
     height: u32,
     bytes: &[u8],
     directory: &[u16],
