@@ -5,3 +5,4 @@ pub mod Room
 pub mod Windows
 pub mod Asking
 pub mod Questions
+pub mod Starting

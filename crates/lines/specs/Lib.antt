@@ -1,3 +1,5 @@
 pub mod Text
 pub mod Lines
 pub mod Report
+pub mod Requests
+pub mod Start

@@ -2,4 +2,6 @@
 pub mod line;
 mod question;
 pub mod record;
+pub mod request;
+pub mod start;
 pub mod text;

@@ -16,11 +16,10 @@ use crate::line::put_ask;
 use crate::line::put_at;
 use crate::line::put_no;
 use crate::line::put_opened;
+use nearest::answer::answer_of;
 use nearest::ask::Nearest;
 use nearest::ask::asked;
-use nearest::distance;
 use nearest::distance::Place;
-use nearest::entry;
 
 // The most joints that are found for a question.
 pub const MAX_ANSWERS: usize = 255;
@@ -30,8 +29,8 @@ fn put_key(key: u64, out: &mut [u8], at: usize) -> usize
     requires { ⌜ (distanceOf key < 2 ^ 32) × Fits (bytesOf (keyLine key)) at (now out) ⌝ }
     ensures { λ r. ⌜ Put (bytesOf (keyLine key)) at (now (out .entry)) r (now (out .exit)) ⌝ }
 {
-    let far = distance::squared(distance::of_key(key));
-    put_at(entry::row_of(key), entry::col_of(key), far, out, at)
+    let a = answer_of(key);
+    put_at(a.row, a.column, a.distance, out, at)
 }
 
 // The joints found, whose keys stand at the end of the keys, the first in the last place.
