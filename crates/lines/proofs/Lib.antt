@@ -6,3 +6,4 @@ pub mod Windows
 pub mod Asking
 pub mod Questions
 pub mod Starting
+pub mod Chunks

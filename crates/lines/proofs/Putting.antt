@@ -14,29 +14,30 @@ sets-append : (a b l : List ℕ) (at : ℕ) → sets l at (a ++ b) ≡ sets (set
 sets-append [] b l at = ap (λ (n : ℕ). sets l n b) (omega arith)
 sets-append (x ∷ a) b l at = sets-append a b (set l at x) (suc at) ∙ ap (λ (n : ℕ). sets (sets (set l at x) (suc at) a) n b) (omega arith)
 
+-- nothing is made longer
+pub put-length : {a : List ℕ} {at r : ℕ} {was is : List ℕ} → Put a at was r is → length is ≡ length was
+put-length {a} {at} {r} {was} {is} p = rw (p .bytes) (length-sets was at a)
+
 -- no text
-pub put-none : (at : ℕ) (l : List ℕ) → Put [] at l at l
-put-none at l = record { place = omega arith; bytes = refl }
+pub put-none : (at : ℕ) (l : List ℕ) → at ≤ length l → Put [] at l at l
+put-none at l h = record { place = omega arith; fits = h; bytes = refl }
 
 -- one byte
-pub put-one : (b at : ℕ) (l : List ℕ) → Put (b ∷ []) at l (at + 1) (set l at b)
-put-one b at l = record { place = refl; bytes = refl }
+pub put-one : (b at : ℕ) (l : List ℕ) → at < length l → Put (b ∷ []) at l (at + 1) (set l at b)
+put-one b at l h = record { place = refl; fits = omega arith; bytes = refl }
 
 -- a text behind a text
 pub put-then : {a b : List ℕ} {at m r : ℕ} {was mid is : List ℕ} → Put a at was m mid → Put b m mid r is → Put (a ++ b) at was r is
 put-then {a} {b} {at} {m} {r} {was} {mid} {is} p q = record {
   place = rw length-append (omega (arith, p .place, q .place));
+  fits = omega (arith, q .fits, put-length p);
   bytes = q .bytes ∙ rw (p .bytes, p .place) (sym (sets-append a b was at));
 }
 
--- nothing is made longer
-pub put-length : {a : List ℕ} {at r : ℕ} {was is : List ℕ} → Put a at was r is → length is ≡ length was
-put-length {a} {at} {r} {was} {is} p = rw (p .bytes) (length-sets was at a)
-
 -- a word of which i bytes are put, and one byte more
-pub put-more : (word was is : List ℕ) (at i : ℕ) → i < length word → Put (take i word) at was (at + i) is → Put (take (i + 1) word) at was (at + (i + 1)) (set is (at + i) (getD word i 0))
-put-more word was is at i h p =
-    let more = put-then p (put-one (getD word i 0) (at + i) is) in
+pub put-more : (word was is : List ℕ) (at i : ℕ) → i < length word → at + i < length is → Put (take i word) at was (at + i) is → Put (take (i + 1) word) at was (at + (i + 1)) (set is (at + i) (getD word i 0))
+put-more word was is at i h j p =
+    let more = put-then p (put-one (getD word i 0) (at + i) is j) in
     let next : at + i + 1 ≡ at + (i + 1) = omega arith in
     rw (add-one i, take-suc word i 0 h) (rw (next, add-one i) at more)
 

@@ -2,13 +2,17 @@
 use Prim.Native.Nat.{ℕ, zero, suc, _+_, _≤_, _<_}
 use mathlib.Core.Bool.{Bool, true, false}
 use mathlib.Core.Path.{_≡_, refl}
-use mathlib.Core.List.{List, [], _∷_, map}
+use mathlib.Core.List.{List, [], _∷_, _++_, map}
 use native.Mathlib.Omega.{arith}
-use lib.ListN.{length}
+use lib.ListN.{length, getD}
 use lib.Dec.{leb, ltb, eqb}
 use borrow.Author.Tests.{leb-true, ltb-true}
-use Rattle.refusal.specs.Answer.{Answer, Served, Refused, _unless_}
+use Rattle.refusal.specs.Answer.{Answer, Served, Refused, _unless_, _then_}
+use Rattle.refusal.proofs.Answers.{passed}
+use Rattle.board.specs.Limits.{maxHeight, maxJoints}
+use Rattle.board.specs.Levels.{groups}
 use Rattle.board.specs.Code.{codeOf}
+use Rattle.build.specs.Build.{onceEach, bitmapOfCodes}
 use Rattle.build.specs.Answers.{codesBuiltOf}
 use Rattle.sheet.specs.declared.kind.Stage.{Stage}
 use Rattle.sheet.specs.declared.kind.Stage.the-variants.{Start}
@@ -16,14 +20,14 @@ use Rattle.sheet.specs.declared.record.Record.{Record}
 use Rattle.sheet.specs.declared.record.Record.the-variants.{Board as BoardOf, Joint, Question, Window, End}
 use Rattle.sheet.specs.Kinds.{stageAfter}
 use Rattle.sheet.specs.Records.{recordAt, kindIn, nextAfter}
-use Rattle.sheet.specs.Sheet.{Verdict, Accepted, RefusedAt, offset, _onward_, heightAfter, withRest, records, sheetOf, maxSheet, heightIn, cellsIn}
+use Rattle.sheet.specs.Sheet.{Verdict, Accepted, RefusedAt, offset, _onward_, heightAfter, withRest, records, sheetOf, maxSheet, heightIn, cellsIn, afterJoints}
 use Rattle.sheet.specs.Promise.{boardOf, readOf, Promise}
 use Rattle.sheet.specs.declared.Sheeted.{Sheeted}
-use Rattle.sheet.proofs.Shape.{not-accepted}
+use Rattle.sheet.proofs.Shape.{not-accepted, went-onward, sheet-shape}
 use Rattle.lines.specs.declared.start.Begun.the-variants.{Board, Refused as NotBegun}
 use Rattle.lines.specs.Text.{bytesOf, Put}
 use Rattle.lines.specs.Lines.{boardLine, refusedLine}
-use Rattle.lines.specs.Start.{Started}
+use Rattle.lines.specs.Start.{toldOf, Started}
 
 -- the offset of a refusal
 abbrev pub offsetIn : {A : Type 0} → Verdict A → ℕ
@@ -85,3 +89,42 @@ module _ (sheet work bitmap out : List ℕ) (sheeted : Sheeted) (work′ bitmap�
   -- the line of a refused one
   pub not-started : (n at : ℕ) → readOf sheet (length work) (length bitmap) ≡ RefusedAt n at → Put (bytesOf (refusedLine n at)) 0 out end out′ → Started sheet work bitmap out (NotBegun end) work′ bitmap′ out′
   not-started n at e p = record { text = rw e p; told = rw e; work-left = kept .work-left; bitmap-left = kept .bitmap-left }
+
+-- an answer that is accepted was served
+was-served : {A : Type 0} (at : ℕ) (a : Answer A) (x : A) → offset at a ≡ Accepted x → a ≡ Served x
+was-served at (Served y) x e = let same : y ≡ x = cc in rw same
+was-served at (Refused n) x e = not-accepted e
+
+-- the bitmap that is built has room
+built-fits : (h : ℕ) (codes built : List ℕ) (room : ℕ) → codesBuiltOf h codes room ≡ Served built → (after : ℕ) → getD (built ++ after ∷ []) 2 0 ≤ room
+unfolding codesBuiltOf
+built-fits h codes built room e after =
+    let bytes = bitmapOfCodes h codes in
+    let numbers = length (onceEach codes) ∷ groups h bytes ∷ length bytes ∷ [] in
+    let few = passed 5 (leb (length (onceEach codes)) maxJoints) (18 unless leb (length bytes) room then Served numbers) e in
+    let roomy = passed 18 (leb (length bytes) room) (Served numbers) (few .1) in
+    let same : built ≡ numbers = cc in
+    rw same (leb-true (length bytes) room (roomy .0))
+
+-- a sheet that is accepted has a height that is served, and a bitmap that has room
+read-fits : (sheet : List ℕ) (work room : ℕ) (served : List ℕ) → readOf sheet work room ≡ Accepted served → (getD served 0 0 ≤ maxHeight) × (getD served 3 0 ≤ room)
+unfolding readOf boardOf
+read-fits sheet work room served e =
+    went-onward (sheetOf sheet) (boardOf work room) e λ rs k f.
+    went-onward (offset 0 (10 unless leb (length (cellsIn rs)) work)) _ f λ x _ g.
+    went-onward (offset 0 (codesBuiltOf (heightIn 0 rs) (map (codeOf (heightIn 0 rs)) (cellsIn rs)) room)) _ g λ built m n.
+    let codes = map (codeOf (heightIn 0 rs)) (cellsIn rs) in
+    let same : heightIn 0 rs ∷ (built ++ afterJoints rs ∷ []) ≡ served = cc in
+    rw (← same) (sheet-shape sheet rs k .low, built-fits (heightIn 0 rs) codes built room (was-served 0 (codesBuiltOf (heightIn 0 rs) codes room) built m) (afterJoints rs))
+
+-- the same of what is told
+told-fits : (sheet : List ℕ) (work room h l q : ℕ) (v : Verdict (List ℕ)) → readOf sheet work room ≡ v → h ∷ l ∷ q ∷ [] ≡ toldOf v → (h ≤ maxHeight) × (l ≤ room)
+told-fits sheet work room h l q (Accepted served) e t =
+    let high : h ≡ getD served 0 0 = cc in
+    let long : l ≡ getD served 3 0 = cc in
+    rw (high, long) (read-fits sheet work room served e)
+told-fits sheet work room h l q (RefusedAt n at) e t = let z : _≡_ {A = ℕ} 0 1 = cc in absurd (omega arith)
+
+-- the height is served, and the bitmap lies in its room
+pub started-fits : (sheet work bitmap out : List ℕ) (h l q end : ℕ) (work′ bitmap′ out′ : List ℕ) → Started sheet work bitmap out (Board h l q end) work′ bitmap′ out′ → (h ≤ maxHeight) × (l ≤ length bitmap)
+started-fits sheet work bitmap out h l q end work′ bitmap′ out′ s = told-fits sheet (length work) (length bitmap) h l q (readOf sheet (length work) (length bitmap)) refl (s .told)

@@ -46,7 +46,8 @@ textOf lines = flatMap bytesOf lines
 abbrev pub Fits : List ℕ → ℕ → List ℕ → Type 0
 Fits text at out = at + length text ≤ length out
 
--- a text is put into a list from a place on, all else is as it was, and this is the place behind it
+-- a text is put into a list from a place on, where it has room; all else is as it was, and this is the place behind it
 pub record Put (text : List ℕ) (at : ℕ) (was : List ℕ) (behind : ℕ) (is : List ℕ) : Type 0 where
   pub place : behind ≡ at + length text
+  pub fits : behind ≤ length was
   pub bytes : is ≡ sets was at text

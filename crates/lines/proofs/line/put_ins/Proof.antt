@@ -21,7 +21,7 @@ abbrev μ-loop : tie.MeasureT-loop
 
 loop-holds : tie.Need-loop-holds Inv-loop μ-loop
 unfolding flatMap
-loop-holds c = (omega arith, omega arith, put-none _ _)
+loop-holds c = (omega arith, omega arith, put-none _ _ (omega arith))
 
 mul-put-in : tie.Need-mul-put-in Inv-loop μ-loop
 mul-put-in c = search needs

@@ -22,7 +22,7 @@ abbrev μ-loop : tie.MeasureT-loop
 
 loop-holds : tie.Need-loop-holds Inv-loop μ-loop
 unfolding flatMap
-loop-holds c = (omega arith, put-none _ _)
+loop-holds c = (omega arith, put-none _ _ (omega arith))
 
 sub-place : tie.Need-sub-place Inv-loop μ-loop
 sub-place c = search needs

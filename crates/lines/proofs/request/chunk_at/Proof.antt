@@ -1,3 +1,4 @@
+use native.Mathlib.Omega.{arith}
 use mathlib.Core.Path.{ap, sym, _∙_}
 use mathlib.Core.List.{flatMap}
 use Rattle.refusal.specs.Numbers.{numberOf}
@@ -55,7 +56,7 @@ unfolding readLines nextIn textOf flatMap
 returns-2 c =
     let g = c .before .before .before .before .before .before .before .before .before .before .before .before .args in
     let none = read-refused (g .at) (recordAt Requests (g .height) (g .sheet .now) (g .at)) (numberOf (c .enum-told .given .0 .0)) (sym (c .before .before .record-at .ensures) ∙ ap recordedOf (c .enum-told .given .1)) in
-    record { text = rw none (put-none 0 _); next = rw none }
+    record { text = rw none (put-none 0 _ (omega arith)); next = rw none }
 
 pub chunk-at-spec : {M : Type 1} → statement M
 chunk-at-spec =

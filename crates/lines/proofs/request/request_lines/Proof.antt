@@ -37,11 +37,11 @@ put-end-requires c κs = omega (arith, line-short endLine (λ i. omega arith))
 
 returns : tie.Need-returns
 unfolding requestLines textOf flatMap
-returns c = rw (c .enum-told .given .1) (put-none 0 _)
+returns c = rw (c .enum-told .given .1) (put-none 0 _ (omega arith))
 
 returns-2 : tie.Need-returns-2
 unfolding requestLines textOf flatMap
-returns-2 c = rw (c .enum-told2 .given .1) (put-none 0 _)
+returns-2 c = rw (c .enum-told2 .given .1) (put-none 0 _ (omega arith))
 
 same-length : tie.Need-same-length
 same-length c = search needs

@@ -71,7 +71,7 @@ put-decimal-returns : (t : ℕ) → put-decimal-lts.Need-returns (
 ) (put-decimal-at t) put-decimal.Post
 put-decimal-returns t c =
     let g = c .before .before .args in
-    rw (decimal-digit (g .n) (omega arith)) (put-one _ (g .at) (g .out .now))
+    rw (decimal-digit (g .n) (omega arith)) (put-one _ (g .at) (g .out .now) (omega (arith, ap length (decimal-digit (g .n) (omega arith)))))
 
 -- src/text.rt:14:9
 put-decimal-put-decimal-requires : (t : ℕ) → put-decimal-lts.Need-put-decimal-requires (
@@ -127,7 +127,9 @@ put-decimal-returns-2 : (t : ℕ) → put-decimal-lts.Need-returns-2 (
   put-decimal.Post,
 ) (put-decimal-at t) put-decimal.Post
 put-decimal-returns-2 t c =
-    rw (decimal-more (c .before .before .before .before .before .before .args .n) (omega arith)) (put-then (c .before .before .put-decimal .ensures) (put-one _ _ _))
+    let n = c .before .before .before .before .before .before .args .n in
+    let e = c .before .before .put-decimal .ensures in
+    rw (decimal-more n (omega arith)) (put-then e (put-one _ _ _ (omega (arith, e .place, put-length e, one-more n (omega arith)))))
 
 pub +put-decimal-spec : {M : Type 1} → statement M
 +put-decimal-spec = close μ-put-decimal λ t. put-decimal-lts.spec (

@@ -28,7 +28,7 @@ returns : tie.Need-returns
 unfolding field
 returns c =
     let g = c .before .before .before .before .before .args in
-    put-then (put-one space (g .at) (g .out .now)) (c .before .before .put-decimal .ensures)
+    put-then (put-one space (g .at) (g .out .now) (omega arith)) (c .before .before .put-decimal .ensures)
 
 pub put-field-spec : {M : Type 1} → statement M
 put-field-spec =

@@ -1,8 +1,8 @@
 use Prim.Native.Nat.{ℕ, _+_}
-use mathlib.Core.Path.{_≡_}
+use mathlib.Core.Path.{_≡_, _∙_}
 use mathlib.Core.List.{List, flatMap}
 use native.Mathlib.Omega.{arith}
-use lib.ListN.{length, length-append}
+use lib.ListN.{length, length-append, length-set}
 use Rattle.lines.specs.Text.{lineFeed, field, bytesOf}
 use Rattle.lines.proofs.Putting.{put-one, put-then, put-length}
 use Rattle.lines.proofs.text.put_line.Statement.{statement}
@@ -42,11 +42,15 @@ same-length : tie.Need-same-length
 same-length c =
     let e = c .before .before .before .before .before .before .put-word .ensures in
     let f = c .before .before .put-fields .ensures in
-    put-length (put-then (put-then e f) (put-one lineFeed _ _))
+    rw length-set (put-length (put-then e f))
 
 returns : tie.Need-returns
 unfolding bytesOf
-returns c = put-then (put-then (c .before .before .before .before .before .before .put-word .ensures) (c .before .before .put-fields .ensures)) (put-one lineFeed _ _)
+returns c =
+    let g = c .before .before .before .before .before .before .before .before .before .before .before .args in
+    let e = c .before .before .before .before .before .before .put-word .ensures in
+    let f = c .before .before .put-fields .ensures in
+    put-then (put-then e f) (put-one lineFeed _ _ (omega (arith, line-length (g .word .now) (g .numbers .now), e .place, put-length e, f .place, put-length f)))
 
 pub put-line-spec : {M : Type 1} → statement M
 put-line-spec =

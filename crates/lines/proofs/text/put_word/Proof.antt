@@ -44,7 +44,7 @@ loop-again : tie.Need-loop-again Inv-loop μ-loop
 loop-again c =
     let l = c .before .before .loop in
     let g = c .before .before .before .args in
-    (omega arith, l .inv .1, put-more (g .word .now) (g .out .now) (l .out) (g .at) (l .i) (omega arith) (l .inv .2))
+    (omega arith, l .inv .1, put-more (g .word .now) (g .out .now) (l .out) (g .at) (l .i) (omega arith) (omega (arith, put-length (l .inv .2))) (l .inv .2))
 
 -- src/text.rt:48:5
 add-result : tie.Need-add-result Inv-loop μ-loop
