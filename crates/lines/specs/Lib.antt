@@ -3,3 +3,4 @@ pub mod Lines
 pub mod Report
 pub mod Requests
 pub mod Start
+pub mod Whole

@@ -2,7 +2,7 @@
 use Prim.Native.Nat.{ℕ}
 use mathlib.Core.Path.{_≡_}
 use mathlib.Core.List.{List, [], _∷_}
-use lib.ListN.{length, replicate}
+use lib.ListN.{length}
 use Rattle.refusal.specs.Answer.{Answer, Served, Refused}
 use Rattle.board.specs.Window.{ends, found, windowOf}
 use Rattle.search.specs.Question.{answerKeys, trail}

@@ -1,0 +1,55 @@
+-- The report of a sheet, as a definition on its bytes; and the same as a program writes it, place by place.
+use Prim.Native.Nat.{ℕ, zero, suc}
+use mathlib.Core.Bool.{cond}
+use mathlib.Core.List.{List, [], _∷_, _++_, flatMap}
+use lib.ListN.{length}
+use lib.Dec.{ltb}
+use Rattle.bitmap.specs.Directory.{directoryOf}
+use Rattle.board.specs.Limits.{maxJoints}
+use Rattle.sheet.specs.declared.kind.Stage.the-variants.{Requests}
+use Rattle.sheet.specs.declared.record.Record.{Record}
+use Rattle.sheet.specs.Records.{recordAt}
+use Rattle.sheet.specs.Sheet.{Verdict, Accepted, RefusedAt, sheetOf, heightIn, requestsIn}
+use Rattle.sheet.specs.Promise.{readOf, bitmapIn}
+use Rattle.lines.specs.Text.{Line, textOf}
+use Rattle.lines.specs.Report.{maxAnswers, maxTrail}
+use Rattle.lines.specs.Requests.{Desk, requestLines, readLines, nextIn}
+use Rattle.lines.specs.Start.{firstLine}
+
+-- the program's room: joint records of the longest sheet, and the bytes of the largest bitmap
+abbrev pub maxRecords : ℕ
+maxRecords = 5957
+
+abbrev pub maxBytes : ℕ
+maxBytes = 8875
+
+-- what the program asks a board with: the board's own directory, and room for every answer but the longest trails
+abbrev pub reportDesk : List ℕ → Desk
+reportDesk bytes = record {
+  directory = directoryOf bytes;
+  rows = maxJoints;
+  columns = maxJoints;
+  rooms = record { answers = maxAnswers; keys = maxJoints; corners = maxJoints; trail = maxTrail };
+}
+
+-- the lines of records on a board, in the order of the sheet
+unfoldable pub linesOf : ℕ → List ℕ → List Record → List Line
+linesOf h bytes rs = flatMap (requestLines (reportDesk bytes) h bytes) rs
+
+-- the lines after the first: none where the sheet is refused
+unfoldable pub restOf : Verdict (List ℕ) → Verdict (List Record) → List Line
+restOf (Accepted served) (Accepted rs) = linesOf (heightIn 0 rs) (bitmapIn (Accepted rs)) (requestsIn rs)
+restOf (Accepted served) (RefusedAt n at) = []
+restOf (RefusedAt n at) v = []
+
+-- the report
+unfoldable pub reportOf : List ℕ → List Line
+reportOf sheet = firstLine (readOf sheet maxRecords maxBytes) ∷ restOf (readOf sheet maxRecords maxBytes) (sheetOf sheet)
+
+-- the bytes of the records from a place on, n at the most, each read where the one before it ends
+unfoldable pub chunksFrom : ℕ → Desk → ℕ → List ℕ → List ℕ → ℕ → List ℕ
+chunksFrom zero desk h bytes sheet at = []
+chunksFrom (suc n) desk h bytes sheet at =
+    cond (ltb at (length sheet))
+    (textOf (readLines desk h bytes (recordAt Requests h sheet at)) ++ chunksFrom n desk h bytes sheet (nextIn sheet at (recordAt Requests h sheet at)))
+    []
