@@ -23,6 +23,10 @@ maxRecords = 5957
 abbrev pub maxBytes : ℕ
 maxBytes = 8875
 
+-- its started blocks of 64 bytes
+abbrev pub maxBlocks : ℕ
+maxBlocks = 139
+
 -- what the program asks a board with: the board's own directory, and room for every answer but the longest trails
 abbrev pub reportDesk : List ℕ → Desk
 reportDesk bytes = record {

@@ -3,9 +3,28 @@ ghost use Prim.Native.Nat.{_≤_};
 ghost use lib.ListN.{length};
 ghost use Rattle.board.specs.Limits.{maxHeight, maxJoints};
 ghost use Rattle.lines.specs.Report.{room, maxTrail};
+ghost use Rattle.lines.specs.Whole.{maxBytes, maxBlocks};
+use lines::record::ROOM;
 use lines::request::next_lines;
 use lines::start::Begun;
 use lines::start::first_line;
+
+// One byte more than the longest sheet has, so that a longer one is told from it.
+const INPUT: usize = 65537;
+
+// The joint records of the longest sheet.
+const RECORDS: usize = 5957;
+
+// The bytes of the largest bitmap, and its blocks of 64 bytes.
+const BITMAP: usize = 8875;
+
+const BLOCKS: usize = 139;
+
+// The most joints of a board.
+const JOINTS: usize = 4096;
+
+// The most boxes of a trail that is printed.
+const TRAIL: usize = 4096;
 
 // Prints the lines of the records from an offset on, each record's in one write.
 fn print_from(
@@ -58,7 +77,7 @@ fn print_requests(
     trail: &mut [u32],
     out: &mut [u8],
 )
-    requires { ⌜ (height ≤ maxHeight) × (length (now bytes) ≤ 8875) × (139 ≤ length (now blocks)) × (length (now rows) ≤ maxJoints) × (length (now trail) ≤ maxTrail) × (room ≤ length (now out)) ⌝ }
+    requires { ⌜ (height ≤ maxHeight) × (length (now bytes) ≤ maxBytes) × (maxBlocks ≤ length (now blocks)) × (length (now rows) ≤ maxJoints) × (length (now trail) ≤ maxTrail) × (room ≤ length (now out)) ⌝ }
 {
     let count = bitmap::blocks_of(bytes.len());
     board::directory::make_directory(height, bytes, &mut blocks[..count]);
@@ -90,7 +109,7 @@ fn print_report(
     trail: &mut [u32],
     out: &mut [u8],
 )
-    requires { ⌜ (length (now bitmap) ≤ 8875) × (139 ≤ length (now blocks)) × (length (now rows) ≤ maxJoints) × (length (now trail) ≤ maxTrail) × (room ≤ length (now out)) ⌝ }
+    requires { ⌜ (length (now bitmap) ≤ maxBytes) × (maxBlocks ≤ length (now blocks)) × (length (now rows) ≤ maxJoints) × (length (now trail) ≤ maxTrail) × (room ≤ length (now out)) ⌝ }
 {
     match first_line(sheet, work, bitmap, out) {
         Begun::Board {
@@ -121,20 +140,19 @@ fn print_report(
     }
 }
 
-// A sheet is read with one byte more than it may have, so that one that is too long is seen to be. There is room for the joints of the
-// longest sheet, for the largest bitmap and its directory, and for every answer.
+// There is room for the longest sheet and its joints, for the largest bitmap and its directory, and for every answer but the longest trails.
 fn main() {
-    let mut input = [0u8; 65537];
+    let mut input = [0u8; INPUT];
     let n = io::read_full(0, &mut input);
-    let mut work = [0u32; 5957];
-    let mut bitmap = [0u8; 8875];
-    let mut blocks = [0u16; 139];
-    let mut rows = [0u32; 4096];
-    let mut columns = [0u32; 4096];
-    let mut keys = [0u64; 4096];
-    let mut corners = [0u32; 4096];
-    let mut trail = [0u32; 4096];
-    let mut out = [0u8; 131072];
+    let mut work = [0u32; RECORDS];
+    let mut bitmap = [0u8; BITMAP];
+    let mut blocks = [0u16; BLOCKS];
+    let mut rows = [0u32; JOINTS];
+    let mut columns = [0u32; JOINTS];
+    let mut keys = [0u64; JOINTS];
+    let mut corners = [0u32; JOINTS];
+    let mut trail = [0u32; TRAIL];
+    let mut out = [0u8; ROOM];
     print_report(
         &input[..n],
         &mut work,
