@@ -7,3 +7,4 @@ pub mod Asking
 pub mod Questions
 pub mod Starting
 pub mod Chunks
+pub mod Enough
