@@ -26,7 +26,7 @@ static uint32_t next_number(int first) {
     return (uint32_t)b[0] | (uint32_t)b[1] << 8 | (uint32_t)b[2] << 16 | (uint32_t)b[3] << 24;
 }
 
-/* Bytes of a stream in room of exactly their number, so that a checker of addresses sees a read past the end. */
+/* Bytes of a stream, in room of exactly their number. */
 static uint8_t *next_bytes(uint32_t length) {
     uint8_t *bytes = malloc(length ? length : 1);
     if (!bytes || fread(bytes, 1, length, stdin) != length) {
