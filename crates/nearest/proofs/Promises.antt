@@ -6,7 +6,7 @@ use mathlib.Core.Logic.{_↔_}
 use mathlib.Core.Path.{_≡_, sym, ap, _∙_}
 use mathlib.Core.List.{List}
 use lib.ListN.{length}
-use lib.IntN.{natAbs}
+use lib.IntN.{ℤ, natAbs}
 use Rattle.refusal.specs.Numbers.{numberOf}
 use Rattle.refusal.specs.Answer.{Served, Refused}
 use Rattle.refusal.proofs.Numbers.{one-to-twenty}
@@ -44,7 +44,7 @@ numbers-one (Turned a) (Found j g) e = absurd (not-both e)
 numbers-one (Turned a) (Turned b) e = let same : numberOf a ≡ numberOf b = cc in ap Turned (one-to-twenty .distinct a b same)
 
 -- two results that keep the promise are equal, and so is all that they leave in the lists lent
-pub kept-one : {h : ℕ} {bytes d : List ℕ} {p : question.Place} {k : ℕ} {was is is′ : Lent} {r r′ : Nearest} → Kept h bytes d p k was r is → Kept h bytes d p k was r′ is′ → (r ≡ r′) × (is ≡ is′)
+pub kept-one : {h : ℕ} {bytes d : List ℕ} {row column : ℤ} {k : ℕ} {was is is′ : Lent} {r r′ : Nearest} → Kept h bytes d row column k was r is → Kept h bytes d row column k was r′ is′ → (r ≡ r′) × (is ≡ is′)
 kept-one {r = r} {r′ = r′} a b =
     let answers = a .answers ∙ sym (b .answers) in
     let keys = a .keys ∙ sym (b .keys) in

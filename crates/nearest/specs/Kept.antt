@@ -3,12 +3,12 @@ use Prim.Native.Nat.{ℕ}
 use mathlib.Core.Path.{_≡_}
 use mathlib.Core.List.{List}
 use lib.ListN.{length, replicate}
+use lib.IntN.{ℤ}
 use Rattle.refusal.specs.Answer.{leftIn}
 use Rattle.search.specs.Question as question
-use Rattle.nearest.specs.declared.distance.Place.{Place}
 use Rattle.nearest.specs.declared.answer.Answer.{Answer}
 use Rattle.nearest.specs.declared.ask.Nearest.{Nearest}
-use Rattle.nearest.specs.Places.{placeOf}
+use Rattle.nearest.specs.Places.{placeAt, placeOf}
 use Rattle.nearest.specs.Answers.{filled}
 use Rattle.nearest.specs.Promise.{Rooms, nearestOf, numbersOf, foundIn}
 
@@ -24,9 +24,9 @@ abbrev pub rooms : Lent → Rooms
 rooms l = record { answers = length (l .answers); keys = length (l .keys); corners = length (l .corners); trail = length (l .trail) }
 
 -- answered with the paper's number and values; the joints found in order, the trail, and zeros after both; the work lists all zeros
-pub record Kept (h : ℕ) (bytes d : List ℕ) (p : Place) (k : ℕ) (was : Lent) (r : Nearest) (is : Lent) : Type 0 where
-  pub number : numbersOf r ≡ nearestOf h bytes d p k (rooms was)
-  pub answers : is .answers ≡ filled (foundIn (nearestOf h bytes d p k (rooms was)) (question.answerKeys (placeOf p) h bytes k)) (length (was .answers))
-  pub trail : is .trail ≡ leftIn (nearestOf h bytes d p k (rooms was)) (question.trail (placeOf p) h bytes k) (length (was .trail))
+pub record Kept (h : ℕ) (bytes d : List ℕ) (row column : ℤ) (k : ℕ) (was : Lent) (r : Nearest) (is : Lent) : Type 0 where
+  pub number : numbersOf r ≡ nearestOf h bytes d (placeAt row column) k (rooms was)
+  pub answers : is .answers ≡ filled (foundIn (nearestOf h bytes d (placeAt row column) k (rooms was)) (question.answerKeys (placeOf (placeAt row column)) h bytes k)) (length (was .answers))
+  pub trail : is .trail ≡ leftIn (nearestOf h bytes d (placeAt row column) k (rooms was)) (question.trail (placeOf (placeAt row column)) h bytes k) (length (was .trail))
   pub keys : is .keys ≡ replicate (length (was .keys)) 0
   pub corners : is .corners ≡ replicate (length (was .corners)) 0

@@ -3,7 +3,7 @@ use Prim.Native.Nat.{ℕ, _+_, _*_, _^_, _≤_}
 use mathlib.Core.Bool.{Bool, _&&_}
 use mathlib.Core.Path.{_≡_}
 use lib.Dec.{leb}
-use lib.IntN.{natAbs}
+use lib.IntN.{ℤ, natAbs}
 use Rattle.board.specs.Limits.{maxHeight, maxPlace, maxSide}
 use Rattle.board.specs.Levels.{Box}
 use Rattle.board.specs.Kids.{entryAt}
@@ -11,6 +11,10 @@ use Rattle.search.specs.Near as near
 use Rattle.search.specs.Keys.{keyOf}
 use Rattle.search.specs.Entries.{cornerOf}
 use Rattle.nearest.specs.declared.distance.Place.{Place}
+
+-- the place that a row and a column name
+abbrev pub placeAt : ℤ → ℤ → Place
+placeAt row column = record { row = row; column = column }
 
 -- the place of a question
 abbrev pub placeOf : Place → near.Place

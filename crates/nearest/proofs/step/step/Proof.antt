@@ -1,4 +1,4 @@
--- `nearest::step::step` meets its contract: a walk of its MIR, written by tools/walk.py. The author's part is what stands under that heading.
+-- `nearest::step::step` meets its contract: a walk of its MIR, written by a tool; the author's part stands under that heading.
 -- Assumes nothing.
 use mathlib.Core.Path.{_≡_, refl, ap}
 use Prim.Native.Nat.{ℕ, _<_, _^_, _*_}
