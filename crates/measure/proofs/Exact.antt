@@ -1,5 +1,4 @@
 -- What is read is exactly what is written: a measure and its number determine each other, in the plain form and in the marked form.
--- And each promise determines: two answers that keep it are equal.
 use Prim.Native.Nat.{ℕ, _≤_}
 use mathlib.Core.Logic.{_↔_}
 use mathlib.Core.Path.{_≡_, refl, sym, ap, _∙_}
@@ -7,19 +6,9 @@ use mathlib.Core.List.{List, _∷_}
 use native.Mathlib.Omega.{arith}
 use lib.IntN.{ℤ, natAbs}
 use Rattle.refusal.specs.Answer.{Served, Refused}
-use Rattle.refusal.specs.Numbers.{numberOf}
-use Rattle.refusal.specs.declared.Refusal.{Refusal}
-use Rattle.refusal.proofs.Numbers.{one-to-twenty}
-use Rattle.measure.specs.declared.Reading.{Reading}
-use Rattle.measure.specs.declared.Reading.the-variants.{Value, Refused as ReadingRefused}
-use Rattle.measure.specs.declared.Marked.{Marked}
-use Rattle.measure.specs.declared.Marked.the-variants.{Value as MarkedValue, Refused as MarkedRefused}
-use Rattle.measure.specs.declared.Writing.{Writing}
-use Rattle.measure.specs.declared.Writing.the-variants.{Done, Refused as WritingRefused}
 use Rattle.measure.specs.Measure.{maxMeasure, minus, isMark, readOf, readMarkedOf, written, writtenMarked}
-use Rattle.measure.specs.Answers.{readingOf, markedOf, writingOf}
 use Rattle.measure.specs.Parts.{withMark}
-use Rattle.measure.proofs.Written.{no-value, served-or-13, marked-served-or-13, read-written, written-read, read-written-marked, written-read-marked, marked-served}
+use Rattle.measure.proofs.Written.{served-or-13, marked-served-or-13, read-written, written-read, read-written-marked, written-read-marked, marked-served}
 
 -- ---- the plain form
 
@@ -53,30 +42,3 @@ written-marked-injective y z h j e = let same : Served y ≡ Served z = sym (rea
 pub no-minus-zero : readMarkedOf (minus ∷ written 0) ≡ Refused 13
 unfolding withMark isMark
 no-minus-zero = marked-served minus (written 0) 0 (read-written 0 (omega arith))
-
--- ---- what a promise determines
-
--- two refusals of one number are one
-one-refusal : (r s : Refusal) → _≡_ {A = ℕ} (numberOf r) (numberOf s) → r ≡ s
-one-refusal = one-to-twenty .distinct
-
--- two readings that say the same are equal, so `read` is determined
-pub reading-determined : (r s : Reading) → readingOf r ≡ readingOf s → r ≡ s
-reading-determined (Value m) (Value n) e = cc
-reading-determined (Value m) (ReadingRefused s) e = no-value (sym e)
-reading-determined (ReadingRefused r) (Value n) e = no-value e
-reading-determined (ReadingRefused r) (ReadingRefused s) e = ap ReadingRefused (one-refusal r s cc)
-
--- and so is `read_marked`
-pub marked-determined : (r s : Marked) → markedOf r ≡ markedOf s → r ≡ s
-marked-determined (MarkedValue y) (MarkedValue z) e = cc
-marked-determined (MarkedValue y) (MarkedRefused s) e = no-value (sym e)
-marked-determined (MarkedRefused r) (MarkedValue z) e = no-value e
-marked-determined (MarkedRefused r) (MarkedRefused s) e = ap MarkedRefused (one-refusal r s cc)
-
--- and what the writers answer; what they leave is an equation already
-pub writing-determined : (r s : Writing) → writingOf r ≡ writingOf s → r ≡ s
-writing-determined Done Done e = refl
-writing-determined Done (WritingRefused s) e = no-value (sym e)
-writing-determined (WritingRefused r) Done e = no-value e
-writing-determined (WritingRefused r) (WritingRefused s) e = ap WritingRefused (one-refusal r s cc)

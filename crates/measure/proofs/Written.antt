@@ -10,13 +10,10 @@ use lib.ListN.{getD, drop}
 use lib.Dec.{eqb}
 use borrow.Author.Tests.{eqb-true, ne-eqb}
 use Rattle.refusal.specs.Answer.{Answer, Served, Refused, _unless_, _then_}
+use Rattle.refusal.proofs.Answers.{not-both}
 use Rattle.measure.specs.Measure.{maxMeasure, isMark, hasForm, measure, marked, valueOf, readOf, signedOf, minusZero, readMarkedOf, written, writtenMarked}
 use Rattle.measure.specs.Parts.{withMark}
 use Rattle.measure.proofs.Places.{Measure, five-bytes, digit-read, digit-written, half-read, half-written, measure-is, measure-value, measure-read}
-
--- a refusal is no value
-pub no-value : {A B : Type 0} {k : ℕ} {a : A} → Refused k ≡ Served a → B
-no-value e = let z : _≡_ {A = ℕ} 0 1 = cc in absurd (omega arith)
 
 -- what is written is read as the number that was written
 pub read-written : (n : ℕ) → n ≤ maxMeasure → readOf (written n) ≡ Served n
@@ -55,7 +52,7 @@ written-read t n = by-test (hasForm measure t) refl
   where
     by-test : (s : Bool) → hasForm measure t ≡ s → (13 unless s then Served (valueOf t)) ≡ Served n → (t ≡ written n) × (n ≤ maxMeasure)
     by-test true e f = let same : n ≡ valueOf t = cc in rw same (measure-written t (measure-is t e))
-    by-test false e f = no-value f
+    by-test false e f = absurd (not-both f)
 
 -- a marked text by its mark and the reading of the rest
 pub marked-served : (mark : ℕ) (t : List ℕ) (n : ℕ) → readOf t ≡ Served n → readMarkedOf (mark ∷ t) ≡ withMark mark n
@@ -65,7 +62,7 @@ marked-served mark t n = by-tests (isMark mark) (hasForm measure t)
     by-tests : (s u : Bool) → (13 unless u then Served (valueOf t)) ≡ Served n → (13 unless (s && u) then 13 unless not (eqb mark 45 && eqb (valueOf t) 0) then Served (signedOf mark (valueOf t))) ≡ (13 unless s then 13 unless not (eqb mark 45 && eqb n 0) then Served (signedOf mark n))
     by-tests true true e = let same : n ≡ valueOf t = cc in rw same
     by-tests false true e = refl
-    by-tests s false e = no-value e
+    by-tests s false e = absurd (not-both e)
 
 -- and refused where the rest is
 pub marked-refused : (mark k : ℕ) (t : List ℕ) → readOf t ≡ Refused k → readMarkedOf (mark ∷ t) ≡ Refused 13
@@ -73,7 +70,7 @@ unfolding readMarkedOf readOf hasForm
 marked-refused mark k t = by-tests (isMark mark) (hasForm measure t)
   where
     by-tests : (s u : Bool) → (13 unless u then Served (valueOf t)) ≡ Refused k → (13 unless (s && u) then 13 unless not (minusZero (mark ∷ t)) then Served (signedOf mark (valueOf t))) ≡ Refused 13
-    by-tests s true e = no-value (sym e)
+    by-tests s true e = absurd (not-both (sym e))
     by-tests true false e = refl
     by-tests false false e = refl
 
@@ -110,16 +107,16 @@ with-mark mark n z = by-tests (eqb mark 43) (eqb mark 45) refl refl n
     by-tests : (s t : Bool) → eqb mark 43 ≡ s → eqb mark 45 ≡ t → (n : ℕ) → (13 unless (s || t) then 13 unless not (t && eqb n 0) then Served (cond t (negℤ (pos n)) (pos n))) ≡ Served z → (mark ∷ written n ≡ writtenMarked z) × (natAbs z ≡ n)
     by-tests true true e f n h = absurd (omega (arith, eqb-true mark 43 e, eqb-true mark 45 f))
     by-tests true false e f n h = let same : z ≡ pos n = cc in rw (same, eqb-true mark 43 e) (refl, refl)
-    by-tests false true e f zero h = no-value h
+    by-tests false true e f zero h = absurd (not-both h)
     by-tests false true e f (suc n) h =
         let as-read : Served (negsuc n) ≡ Served z = rw (ne-eqb (suc n) 0 (omega arith)) at h in
         let same : z ≡ negsuc n = cc in rw (same, eqb-true mark 45 f) (refl, refl)
-    by-tests false false e f n h = no-value h
+    by-tests false false e f n h = absurd (not-both h)
 
 -- what is read as a signed number is that number, written with its mark
 pub written-read-marked : (t : List ℕ) (z : ℤ) → readMarkedOf t ≡ Served z → (t ≡ writtenMarked z) × (natAbs z ≤ maxMeasure)
 unfolding readMarkedOf hasForm
-written-read-marked [] z h = no-value h
+written-read-marked [] z h = absurd (not-both h)
 written-read-marked (mark ∷ t) z h = by-reading (readOf t) refl
   where
     by-reading : (a : Answer ℕ) → readOf t ≡ a → (mark ∷ t ≡ writtenMarked z) × (natAbs z ≤ maxMeasure)
@@ -127,4 +124,4 @@ written-read-marked (mark ∷ t) z h = by-reading (readOf t) refl
         let w = written-read t n e in
         let m = with-mark mark n z (sym (marked-served mark t n e) ∙ h) in
         (rw (w .0) (m .0), omega arith)
-    by-reading (Refused k) e = no-value (sym (marked-refused mark k t e) ∙ h)
+    by-reading (Refused k) e = absurd (not-both (sym (marked-refused mark k t e) ∙ h))
