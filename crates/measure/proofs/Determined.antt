@@ -12,14 +12,14 @@ use Rattle.measure.specs.declared.Writing.the-variants.{Done, Refused as
 use Rattle.measure.specs.Answers.{readingOf, markedOf, writingOf}
 use Rattle.measure.proofs.read as read-fn
 use Rattle.measure.proofs.read.Reads as read
-use Rattle.measure.proofs.read_marked as read_marked-fn
-use Rattle.measure.proofs.read_marked.Reads as read_marked
+use Rattle.measure.proofs.read_marked as read-marked-fn
+use Rattle.measure.proofs.read_marked.Reads as read-marked
 use Rattle.measure.proofs.write as write-fn
 use Rattle.measure.proofs.write.Reads as write
-use Rattle.measure.proofs.write_marked as write_marked-fn
-use Rattle.measure.proofs.write_marked.Reads as write_marked
-use Rattle.measure.proofs.size_of as size_of-fn
-use Rattle.measure.proofs.size_of.Reads as size_of
+use Rattle.measure.proofs.write_marked as write-marked-fn
+use Rattle.measure.proofs.write_marked.Reads as write-marked
+use Rattle.measure.proofs.size_of as size-of-fn
+use Rattle.measure.proofs.size_of.Reads as size-of
 
 -- two answers that say the same in the paper's numbers are one
 readings-alike : (r s : Reading) → readingOf r ≡ readingOf s → r ≡ s
@@ -43,14 +43,14 @@ writings-alike (WritingRefused r) (WritingRefused s) e = ap WritingRefused (same
 pub read-determined : Determines read-fn.ended read.Asked read.Learnt
 read-determined κs a asked x y left other p q = (readings-alike x y (p ∙ sym q), refl)
 
-pub read_marked-determined : Determines read_marked-fn.ended read_marked.Asked read_marked.Learnt
-read_marked-determined κs a asked x y left other p q = (marked-alike x y (p ∙ sym q), refl)
+pub read-marked-determined : Determines read-marked-fn.ended read-marked.Asked read-marked.Learnt
+read-marked-determined κs a asked x y left other p q = (marked-alike x y (p ∙ sym q), refl)
 
 pub write-determined : Determines write-fn.ended write.Asked write.Learnt
 write-determined κs a asked x y left other p q = (writings-alike x y (p .0 ∙ sym (q .0)), λ i. (tt, ((p .1 ∙ sym (q .1)) i, tt)))
 
-pub write_marked-determined : Determines write_marked-fn.ended write_marked.Asked write_marked.Learnt
-write_marked-determined κs a asked x y left other p q = (writings-alike x y (p .0 ∙ sym (q .0)), λ i. (tt, ((p .1 ∙ sym (q .1)) i, tt)))
+pub write-marked-determined : Determines write-marked-fn.ended write-marked.Asked write-marked.Learnt
+write-marked-determined κs a asked x y left other p q = (writings-alike x y (p .0 ∙ sym (q .0)), λ i. (tt, ((p .1 ∙ sym (q .1)) i, tt)))
 
-pub size_of-determined : Determines size_of-fn.ended size_of.Asked size_of.Learnt
-size_of-determined κs a asked x y left other p q = (p ∙ sym q, refl)
+pub size-of-determined : Determines size-of-fn.ended size-of.Asked size-of.Learnt
+size-of-determined κs a asked x y left other p q = (p ∙ sym q, refl)

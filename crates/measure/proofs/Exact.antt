@@ -1,7 +1,7 @@
 -- What is read is exactly what is written: a measure and its number determine each other, in the plain form and in the marked form.
 use Prim.Native.Nat.{ℕ, _≤_}
 use mathlib.Core.Logic.{_↔_}
-use mathlib.Core.Path.{_≡_, refl, sym, ap, _∙_}
+use mathlib.Core.Path.{_≡_, sym, ap, _∙_}
 use mathlib.Core.List.{List, _∷_}
 use native.Mathlib.Omega.{arith}
 use lib.IntN.{ℤ, natAbs}
