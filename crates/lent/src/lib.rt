@@ -3,37 +3,37 @@ ghost use mathlib.Core.Path.{_≡_};
 ghost use lib.ListN.{length, replicate};
 
 // A list of bytes, all zeros.
-pub fn clear_bytes(list: &mut [u8])
-    ensures { λ _. ⌜ now (list .exit) ≡ replicate (length (now (list .entry))) 0 ⌝ }
+pub fn clear_bytes(bytes: &mut [u8])
+    ensures { λ _. ⌜ now (bytes .exit) ≡ replicate (length (now (bytes .entry))) 0 ⌝ }
 {
-    for i in 0..list.len() {
-        list[i] = 0;
+    for i in 0..bytes.len() {
+        bytes[i] = 0;
     }
 }
 
 // A list of 16-bit numbers, all zeros.
-pub fn clear_shorts(list: &mut [u16])
-    ensures { λ _. ⌜ now (list .exit) ≡ replicate (length (now (list .entry))) 0 ⌝ }
+pub fn clear_shorts(shorts: &mut [u16])
+    ensures { λ _. ⌜ now (shorts .exit) ≡ replicate (length (now (shorts .entry))) 0 ⌝ }
 {
-    for i in 0..list.len() {
-        list[i] = 0;
+    for i in 0..shorts.len() {
+        shorts[i] = 0;
     }
 }
 
 // A list of 32-bit numbers, all zeros.
-pub fn clear_words(list: &mut [u32])
-    ensures { λ _. ⌜ now (list .exit) ≡ replicate (length (now (list .entry))) 0 ⌝ }
+pub fn clear_words(words: &mut [u32])
+    ensures { λ _. ⌜ now (words .exit) ≡ replicate (length (now (words .entry))) 0 ⌝ }
 {
-    for i in 0..list.len() {
-        list[i] = 0;
+    for i in 0..words.len() {
+        words[i] = 0;
     }
 }
 
 // A list of 64-bit numbers, all zeros.
-pub fn clear_longs(list: &mut [u64])
-    ensures { λ _. ⌜ now (list .exit) ≡ replicate (length (now (list .entry))) 0 ⌝ }
+pub fn clear_longs(longs: &mut [u64])
+    ensures { λ _. ⌜ now (longs .exit) ≡ replicate (length (now (longs .entry))) 0 ⌝ }
 {
-    for i in 0..list.len() {
-        list[i] = 0;
+    for i in 0..longs.len() {
+        longs[i] = 0;
     }
 }

@@ -8,16 +8,16 @@ use Rattle.lent.proofs.clear_bytes.Statement.{statement}
 use Rattle.lent.proofs.clear_bytes.Tie as tie
 
 abbrev Inv-loop : tie.InvT-loop
-Inv-loop list₀ i₀ i-end list i = Cleared list₀ list i
+Inv-loop was i₀ i-end list i = Cleared was list i
 
 abbrev μ-loop : tie.MeasureT-loop
-μ-loop list₀ i₀ i-end list i = length list₀ - i
+μ-loop was i₀ i-end list i = length was - i
 
 loop-holds : tie.Need-loop-holds Inv-loop μ-loop
 loop-holds c = (omega arith, refl, refl)
 
-slice-write-list : tie.Need-slice-write-list Inv-loop μ-loop
-slice-write-list c = omega arith
+slice-write-bytes : tie.Need-slice-write-bytes Inv-loop μ-loop
+slice-write-bytes c = omega arith
 
 add-i : tie.Need-add-i Inv-loop μ-loop
 add-i c = omega arith
@@ -26,13 +26,13 @@ loop-less : tie.Need-loop-less Inv-loop μ-loop
 loop-less c = omega arith
 
 loop-again : tie.Need-loop-again Inv-loop μ-loop
-loop-again c = let w = c .before .loop in one-more (c .before .before .args .list .now) (w .list) (w .i) (w .inv) (c .loop-test .taken)
+loop-again c = let w = c .before .loop in one-more (c .before .before .args .bytes .now) (w .bytes) (w .i) (w .inv) (c .loop-test .taken)
 
 same-length : tie.Need-same-length Inv-loop μ-loop
 same-length c = omega arith
 
 returns : tie.Need-returns Inv-loop μ-loop
-returns c = let w = c .before .loop in all-cleared (c .before .before .args .list .now) (w .list) (w .i) (w .inv) (omega arith)
+returns c = let w = c .before .loop in all-cleared (c .before .before .args .bytes .now) (w .bytes) (w .i) (w .inv) (omega arith)
 
 pub clear-bytes-spec : {M : Type 1} → statement M
-clear-bytes-spec = tie.close (tie.spec Inv-loop μ-loop loop-holds slice-write-list add-i loop-less loop-again same-length returns)
+clear-bytes-spec = tie.close (tie.spec Inv-loop μ-loop loop-holds slice-write-bytes add-i loop-less loop-again same-length returns)
