@@ -1,30 +1,22 @@
--- What the promises of the entries come to: the check serves exactly the valid bitmaps within the limits, membership is membership among the
--- joints, and each promise determines: two results that keep it are equal.
+-- What the promises of the entries come to: the check serves exactly the valid bitmaps within the limits, and membership is membership among the
+-- joints.
 use Prim.Native.Nat.{ℕ, zero, suc, _^_, _<_}
 use mathlib.Core.Bool.{Bool, true, false, cond, _&&_}
 use mathlib.Core.Logic.{_↔_}
-use mathlib.Core.Path.{_≡_, refl, sym, ap, _∙_}
+use mathlib.Core.Path.{_≡_, refl, sym, ap}
 use mathlib.Core.List.{List, [], _∷_}
 use native.Mathlib.Omega.{arith}
 use lib.ListN.{length, getD}
 use lib.Dec.{eqb}
 use borrow.Author.Tests.{eqb-true, eq-eqb, lt-ltb}
-use Rattle.refusal.specs.Numbers.{numberOf}
-use Rattle.refusal.specs.Answer.{Served, leftIn}
-use Rattle.refusal.proofs.Numbers.{one-to-twenty}
-use Rattle.refusal.proofs.Answers.{not-both}
+use Rattle.refusal.specs.Answer.{Served}
 use Rattle.order.proofs.Cases.{test-cases}
 use Rattle.bitmap.specs.Directory.{directoryOf}
 use Rattle.bitmap.proofs.Directory.{alike-same}
-use Rattle.board.specs.declared.check.Checked.{Checked}
-use Rattle.board.specs.declared.check.Checked.the-variants.{Board, Refused as NotChecked}
-use Rattle.board.specs.declared.member.Membership.{Membership}
-use Rattle.board.specs.declared.member.Membership.the-variants.{Stored, Absent, Refused as NotMember}
 use Rattle.board.specs.Levels.{Box, joints}
 use Rattle.board.specs.Check.{checkOf}
-use Rattle.board.specs.Numbers.{numbersOf}
-use Rattle.board.specs.Ready.{Ready, askedOf, madeOf}
-use Rattle.board.specs.Member.{among, stored, onBoard, memberOf, memberNumbers}
+use Rattle.board.specs.Ready.{Ready}
+use Rattle.board.specs.Member.{among, stored, onBoard, memberOf}
 use Rattle.board.proofs.Codes.{box-path}
 use Rattle.board.proofs.Valid.{Sound, both, served-valid, valid-served}
 
@@ -33,34 +25,6 @@ use Rattle.board.proofs.Valid.{Sound, both, served-valid, valid-served}
 -- it serves j joints and g boxes exactly where the bitmap is valid, at a height from 1 to the greatest, with no more joints than the most, and has so many
 pub check-exactly : (h : ℕ) (bytes : List ℕ) (j g : ℕ) → (checkOf h bytes ≡ Served (j ∷ g ∷ [])) ↔ Sound h bytes j g
 check-exactly h bytes j g = (served-valid h bytes j g, λ s. rw (s .joints-are, s .groups-are) (valid-served h bytes (s .valid) (s .low) (s .few)))
-
--- no two results have the same numbers
-pub numbers-one : (r s : Checked) → numbersOf r ≡ numbersOf s → r ≡ s
-numbers-one (Board j g) (Board j′ g′) e =
-    let same-joints : j ≡ j′ = cc in
-    let same-boxes : g ≡ g′ = cc in
-    rw (same-joints, same-boxes)
-numbers-one (Board j g) (NotChecked b) e = absurd (not-both (sym e))
-numbers-one (NotChecked a) (Board j g) e = absurd (not-both e)
-numbers-one (NotChecked a) (NotChecked b) e = let same : numberOf a ≡ numberOf b = cc in ap NotChecked (one-to-twenty .distinct a b same)
-
--- the check's promise determines
-pub check-one : (h : ℕ) (bytes : List ℕ) (r s : Checked) → numbersOf r ≡ checkOf h bytes → numbersOf s ≡ checkOf h bytes → r ≡ s
-check-one h bytes r s e f = numbers-one r s (e ∙ sym f)
-
--- so does that of the check with a directory
-pub ask-one : (h : ℕ) (bytes d : List ℕ) (r s : Checked) → numbersOf r ≡ askedOf h bytes d → numbersOf s ≡ askedOf h bytes d → r ≡ s
-ask-one h bytes d r s e f = numbers-one r s (e ∙ sym f)
-
--- ---- the directory maker
-
--- its result and what it leaves in the list
-abbrev pub Made : ℕ → List ℕ → ℕ → Checked → List ℕ → Type 0
-Made h bytes n r left = (numbersOf r ≡ madeOf h bytes n) × (left ≡ leftIn (madeOf h bytes n) (directoryOf bytes) n)
-
--- its promise determines both
-pub made-one : (h : ℕ) (bytes : List ℕ) (n : ℕ) (r s : Checked) (left left′ : List ℕ) → Made h bytes n r left → Made h bytes n s left′ → (r ≡ s) × (left ≡ left′)
-made-one h bytes n r s left left′ a b = (numbers-one r s (a .0 ∙ sym (b .0)), a .1 ∙ sym (b .1))
 
 -- ---- membership
 
@@ -94,19 +58,3 @@ pub ready-member : (h : ℕ) (bytes d : List ℕ) (r c : ℕ) → Ready h bytes 
 unfolding memberOf onBoard stored
 ready-member h bytes d r c b lr lc =
     rw (valid-served h bytes (b .valid) (b .low) (b .few), b .ranked, alike-same (directoryOf bytes), lt-ltb r (2 ^ h) lr, lt-ltb c (2 ^ h) lc)
-
--- no two results have the same number and value
-pub member-numbers-one : (r s : Membership) → memberNumbers r ≡ memberNumbers s → r ≡ s
-member-numbers-one Stored Stored e = refl
-member-numbers-one Stored Absent e = absurd (let z : _≡_ {A = ℕ} 0 1 = cc in omega arith)
-member-numbers-one Stored (NotMember b) e = absurd (not-both (sym e))
-member-numbers-one Absent Stored e = absurd (let z : _≡_ {A = ℕ} 0 1 = cc in omega arith)
-member-numbers-one Absent Absent e = refl
-member-numbers-one Absent (NotMember b) e = absurd (not-both (sym e))
-member-numbers-one (NotMember a) Stored e = absurd (not-both e)
-member-numbers-one (NotMember a) Absent e = absurd (not-both e)
-member-numbers-one (NotMember a) (NotMember b) e = let same : numberOf a ≡ numberOf b = cc in ap NotMember (one-to-twenty .distinct a b same)
-
--- membership's promise determines
-pub member-one : (h : ℕ) (bytes d : List ℕ) (row column : ℕ) (r s : Membership) → memberNumbers r ≡ memberOf h bytes d row column → memberNumbers s ≡ memberOf h bytes d row column → r ≡ s
-member-one h bytes d row column r s e f = member-numbers-one r s (e ∙ sym f)

@@ -12,8 +12,7 @@ use lib.Dec.{leb, ltb}
 use borrow.Author.Tests.{ltb-true, le-leb, lt-leb, lt-ltb}
 use Rattle.refusal.specs.Answer.{Answer, Served, Refused, leftIn}
 use Rattle.refusal.specs.declared.Refusal.the-variants.{AnswerRoom}
-use Rattle.refusal.proofs.Numbers.{one-to-twenty}
-use Rattle.refusal.proofs.Answers.{not-both, stays, goes-on}
+use Rattle.refusal.proofs.Answers.{stays, goes-on}
 use Rattle.order.specs.Order.{keep}
 use Rattle.order.proofs.Cases.{test-cases, ltb-cases}
 use Rattle.bitmap.specs.declared.GroupNo.{GroupNo}
@@ -199,15 +198,3 @@ module _ (h : ℕ) (bytes d : List ℕ) (w : Window) (rows columns : ℕ) {x : L
         rows-left = rw (window-on f g, found-raised w h bytes, i) (rw (n, n′) at (x .rows-left));
         columns-left = rw (window-on f g, found-raised w h bytes, i′) (rw (n, n′) at (x .columns-left));
       }
-
--- any two results that are shown alike are equal
-pub shown-unique : (a : Answer ℕ) (cells : List Box) (r t : Windowed) (rows rows′ rows″ columns columns′ columns″ : List ℕ)
-    → Shown a cells r rows rows′ columns columns′ → Shown a cells t rows rows″ columns columns″ → (r ≡ t) × (rows′ ≡ rows″) × (columns′ ≡ columns″)
-shown-unique a cells r t rows rows′ rows″ columns columns′ columns″ x y =
-    (same r t (x .returned ∙ sym (y .returned)), x .rows-left ∙ sym (y .rows-left), x .columns-left ∙ sym (y .columns-left))
-  where
-    same : (r t : Windowed) → windowNumbers r ≡ windowNumbers t → r ≡ t
-    same (Cells n) (Cells m) e = cc
-    same (Cells n) (Turned f) e = absurd (not-both (sym e))
-    same (Turned f) (Cells n) e = absurd (not-both e)
-    same (Turned f) (Turned g) e = let n = one-to-twenty .distinct f g cc in rw n
