@@ -1,4 +1,4 @@
--- What building is worth: the bitmap is valid, reads back as the cells, is the only one, fits; and the promise leaves one result.
+-- What building is worth: the bitmap is valid, reads back as the cells, is the only one, and fits.
 use Prim.Native.Nat.{ℕ, _^_, _≤_, _<_}
 use mathlib.Core.Path.{_≡_, sym, ap, _∙_}
 use mathlib.Core.List.{List, [], _∷_, map}
@@ -6,8 +6,6 @@ use native.Mathlib.Omega.{arith}
 use lib.ListN.{length, getD}
 use lib.Dec.{eqb}
 use Rattle.refusal.specs.Answer.{Served}
-use Rattle.refusal.proofs.Numbers.{one-to-twenty}
-use Rattle.refusal.proofs.Answers.{not-both}
 use Rattle.order.specs.Order.{has}
 use Rattle.order.proofs.Sets.{In, rising-ext, has-set}
 use Rattle.board.specs.Limits.{maxHeight, maxJoints}
@@ -20,10 +18,7 @@ use Rattle.board.proofs.Codes.{decode, codes}
 use Rattle.board.proofs.WayDown.{stored-code}
 use Rattle.board.proofs.Valid.{valid-served}
 use Rattle.board.proofs.Bounds.{groups-at-most}
-use Rattle.build.specs.declared.Built.{Built}
-use Rattle.build.specs.declared.Built.the-variants.{Board, Refused as Turned}
 use Rattle.build.specs.Build.{onceEach, setOf, bitmapOfCodes, bitmapOf}
-use Rattle.build.specs.Promise.{builtNumbers, Promise}
 use Rattle.build.proofs.Bitmaps.{bitmap-of-joints, bitmap-valid, codes-of-bitmap, joints-of-bitmap, length-joints-of-bitmap, rising-setOf}
 use Rattle.build.proofs.Building.{codes-of-cells}
 
@@ -85,16 +80,3 @@ codes-as-cells h codes small = rw (codes-of-cells h codes small)
 pub codes-fit : (h : ℕ) (codes : List ℕ) → 1 ≤ h → h ≤ maxHeight → ((z : ℕ) → In z codes → z < 4 ^ h) → length (onceEach codes) ≤ maxJoints → length (bitmapOfCodes h codes) ≤ 8875
 codes-fit h codes low high small few =
     rw (codes-as-cells h codes small) (built-fits h (map (decode h) codes) low high (unfold setOf in rw (codes-of-cells h codes small) few))
-
--- an answer in numbers is one answer
-pub numbers-one : (r s : Built) → builtNumbers r ≡ builtNumbers s → r ≡ s
-numbers-one (Board j g l) (Board j′ g′ l′) e = cc
-numbers-one (Board j g l) (Turned s) e = absurd (not-both (sym e))
-numbers-one (Turned r) (Board j g l) e = absurd (not-both e)
-numbers-one (Turned r) (Turned s) e = ap Turned (one-to-twenty .distinct r s (let n : _ ≡ _ = cc in n))
-
--- two results that keep build's promise are equal
-pub one-result : (h : ℕ) (rows columns work bitmap : List ℕ) (r s : Built) (w b w′ b′ : List ℕ)
-    → Promise h rows columns work bitmap r w b → Promise h rows columns work bitmap s w′ b′ → (r ≡ s) × (w ≡ w′) × (b ≡ b′)
-one-result h rows columns work bitmap r s w b w′ b′ p q =
-    (numbers-one r s (p .answered ∙ sym (q .answered)), p .work-left ∙ sym (q .work-left), p .bitmap-left ∙ sym (q .bitmap-left))

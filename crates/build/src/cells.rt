@@ -23,7 +23,7 @@ pub fn code(height: u32, row: u32, column: u32) -> u32
 }
 
 // Whether every cell is on the board.
-pub fn all_on(height: u32, rows: &[u32], columns: &[u32]) -> bool
+pub(crate) fn all_on(height: u32, rows: &[u32], columns: &[u32]) -> bool
     requires { ⌜ (height ≤ maxHeight) × (length (now rows) ≡ length (now columns)) ⌝ }
     ensures { λ r. ⌜ r ≡ allOn height (cellsOf (now (rows .entry)) (now (columns .entry))) ⌝ }
 {
@@ -38,7 +38,7 @@ pub fn all_on(height: u32, rows: &[u32], columns: &[u32]) -> bool
 }
 
 // The cells' codes, from the first place of the work list on.
-pub fn fill(height: u32, rows: &[u32], columns: &[u32], work: &mut [u32])
+pub(crate) fn fill(height: u32, rows: &[u32], columns: &[u32], work: &mut [u32])
     requires { ⌜ (height ≤ maxHeight) × (length (now rows) ≡ length (now columns)) × (length (now rows) ≤ length (now work)) ⌝ }
     ensures { λ _. ⌜ now (work .exit) ≡ map (codeOf height) (cellsOf (now (rows .entry)) (now (columns .entry))) ++ drop (length (now (rows .entry))) (now (work .entry)) ⌝ }
 {

@@ -73,7 +73,7 @@ fn write_level(work: &[u32], n: usize, s: u32, first: GroupNo, bitmap: &mut [u8]
 }
 
 // Writes the groups of all levels into an empty bitmap; how many they are, as the number of the next group.
-pub fn write_levels(height: u32, work: &[u32], n: usize, bitmap: &mut [u8]) -> GroupNo
+pub(crate) fn write_levels(height: u32, work: &[u32], n: usize, bitmap: &mut [u8]) -> GroupNo
     requires { ⌜ (1 ≤ height) × (height ≤ maxHeight) × (n ≤ maxJoints) × (n ≤ length (now work)) × Rising (take n (now work)) × ((z : ℕ) → In z (take n (now work)) → z < 4 ^ height) × (now bitmap ≡ replicate (length (now bitmap)) 0) ⌝ }
     ensures { λ r. ⌜ Written (groupsFrom height (0 ∷ []) (take n (now (work .entry)))) (r .0) (now (bitmap .exit)) × (r .0 ≤ maxHeight * maxJoints + 1) ⌝ }
 {
