@@ -1,0 +1,219 @@
+-- The directory maker, membership and the window give each of their numbers exactly when the table says, in the order of document 01.
+use Prim.Native.Nat.{ℕ, suc, _^_, _≤_, _<_}
+use mathlib.Core.Bool.{Bool, true, false, _&&_}
+use mathlib.Core.Logic.{_↔_, _⊎_, inl, inr}
+use mathlib.Core.Path.{_≡_, refl, sym, ap, _∙_}
+use mathlib.Core.List.{List, [], _∷_}
+use native.Mathlib.Omega.{arith}
+use lib.ListN.{length, getD}
+use lib.Dec.{leb, ltb, eqb}
+use borrow.Author.Tests.{leb-true, ltb-true, leb-false, eqb-false, le-leb, lt-leb, ne-eqb, lt-ltb}
+use Rattle.refusal.specs.Answer.{Answer, Served, Refused, _unless_, _then_}
+use Rattle.refusal.proofs.Answers.{not-both}
+use Rattle.order.proofs.Cases.{test-cases, same?}
+use Rattle.bitmap.specs.Directory.{blocks, directoryOf, alike}
+use Rattle.bitmap.proofs.Directory.{length-directory, alike-same, alike-true, alike-false}
+use Rattle.board.specs.Check.{checkOf}
+use Rattle.board.specs.Ready.{madeOf}
+use Rattle.board.specs.Member.{onBoard, stored, memberOf}
+use Rattle.board.specs.Window.{Window, endsFit, found, roomed, windowOf}
+use Rattle.board.specs.Table.{WrongLength, WrongEntry, CellOn, WindowOn, Serves}
+use Rattle.board.proofs.Valid.{both}
+use Rattle.board.proofs.Refused.{past-test, by-test, past-first, by-first}
+use Rattle.board.proofs.Exactly.{check-numbers}
+
+-- ---- the tests in the table's words
+
+-- a test is passed or not
+no-path : true ≡ false → ⊥
+no-path e = let z : _≡_ {A = ℕ} 0 1 = cc in omega arith
+
+-- two lists of one length that are not equal differ in an entry
+differ-at : (xs ys : List ℕ) → length xs ≡ length ys → (xs ≡ ys → ⊥) → (k : ℕ) × (k < length ys) × (getD xs k 0 ≡ getD ys k 0 → ⊥)
+differ-at [] [] l n = absurd (n refl)
+differ-at [] (y ∷ ys) l n = absurd (omega arith)
+differ-at (x ∷ xs) [] l n = absurd (omega arith)
+differ-at (x ∷ xs) (y ∷ ys) l n =
+    same? x y
+    (λ e. let rest = differ-at xs ys (omega arith) (λ f. n (rw (e, f))) in (suc (rest .0), omega (arith, rest .1), rest .2))
+    (λ d. (0, omega arith, d))
+
+-- a directory that is not the board's has a wrong length or a wrong entry
+wrong-directory : (bytes d : List ℕ) → alike d (directoryOf bytes) ≡ false → WrongLength (length d) bytes ⊎ WrongEntry d bytes
+wrong-directory bytes d f =
+    same? (length d) (blocks (length bytes))
+    (λ same. let at = differ-at d (directoryOf bytes) (rw length-directory same) (λ e. no-path (sym (rw e (alike-same (directoryOf bytes))) ∙ f)) in
+    inr (at .0, rw (← length-directory bytes) (at .1), at .2))
+    inl
+
+-- and back
+directory-wrong : (bytes d : List ℕ) → WrongLength (length d) bytes ⊎ WrongEntry d bytes → alike d (directoryOf bytes) ≡ false
+directory-wrong bytes d (inl n) = sym (alike-false d (directoryOf bytes) (λ e. n (ap length e ∙ length-directory bytes)))
+directory-wrong bytes d (inr (k, l, n)) = sym (alike-false d (directoryOf bytes) (λ e. n (ap (λ (x : List ℕ). getD x k 0) e)))
+
+-- a cell on the board
+cell-on : (h r c : ℕ) → (onBoard h r c ≡ true) ↔ CellOn h r c
+unfolding onBoard
+cell-on h r c = ((λ e. let t = both (ltb r (2 ^ h)) (ltb c (2 ^ h)) e in (ltb-true r (2 ^ h) (t .0), ltb-true c (2 ^ h) (t .1))), λ o. rw (lt-ltb r (2 ^ h) (o .0), lt-ltb c (2 ^ h) (o .1)))
+
+-- a test that says P is not passed exactly where P is not so
+not-passed : (t : Bool) {P : Type 0} → (t ≡ true) ↔ P → (t ≡ false) ↔ (P → ⊥)
+not-passed true e = ((λ f. absurd (no-path f)), λ n. absurd (n (e .0 refl)))
+not-passed false e = ((λ f p. no-path (sym (e .1 p))), λ n. refl)
+
+-- ---- the check and the directory, and then what is asked
+
+module _ (h : ℕ) (bytes d : List ℕ) {A : Type 0} (rest : Answer A) where
+  -- such an answer
+  abbrev pub Asked : Answer A
+  Asked = checkOf h bytes then 6 unless alike d (directoryOf bytes) then rest
+
+  -- 1 to 5: exactly when the check gives them
+  pub those : (k : ℕ) → k ≤ 5 → (rest ≡ Refused k → ⊥) → (Asked ≡ Refused k) ↔ (checkOf h bytes ≡ Refused k)
+  those k l never = ((λ e. by-first (checkOf h bytes) _ (λ f. never (past-test 6 k (alike d (directoryOf bytes)) _ (ne-eqb 6 k (omega arith)) f .1)) e), λ e. rw e)
+
+  -- 6: a directory of wrong length, or a wrong entry
+  pub six : (rest ≡ Refused 6 → ⊥) → (Asked ≡ Refused 6) ↔ (Serves (checkOf h bytes) × (WrongLength (length d) bytes ⊎ WrongEntry d bytes))
+  six never = (refused, λ s. rw (s .0 .1, directory-wrong bytes d (s .1)))
+    where
+      refused : Asked ≡ Refused 6 → Serves (checkOf h bytes) × (WrongLength (length d) bytes ⊎ WrongEntry d bytes)
+      refused e =
+          let s = past-first (checkOf h bytes) _ (λ f. omega (arith, check-numbers h bytes 6 f)) e in
+          ((s .0, s .1), wrong-directory bytes d (by-test 6 (alike d (directoryOf bytes)) rest never (s .2)))
+
+  -- any other: the check serves and the directory is the board's
+  pub after-six : (k : ℕ) → 6 < k → (Asked ≡ Refused k) ↔ (Serves (checkOf h bytes) × (d ≡ directoryOf bytes) × (rest ≡ Refused k))
+  after-six k l = (refused, λ s. rw (s .0 .1, s .1, alike-same (directoryOf bytes)) (s .2))
+    where
+      refused : Asked ≡ Refused k → Serves (checkOf h bytes) × (d ≡ directoryOf bytes) × (rest ≡ Refused k)
+      refused e =
+          let s = past-first (checkOf h bytes) _ (λ f. omega (arith, check-numbers h bytes k f)) e in
+          let r = past-test 6 k (alike d (directoryOf bytes)) rest (ne-eqb 6 k (omega arith)) (s .2) in
+          ((s .0, s .1), alike-true d (directoryOf bytes) (r .0), r .1)
+
+-- ---- the directory maker
+
+module _ (h : ℕ) (bytes : List ℕ) (n : ℕ) where
+  pub made-those : (k : ℕ) → k ≤ 5 → (madeOf h bytes n ≡ Refused k) ↔ (checkOf h bytes ≡ Refused k)
+  unfolding madeOf
+  made-those k l = (go (checkOf h bytes) (eqb n (blocks (length bytes))), λ e. rw e)
+    where
+      go : (a : Answer (List ℕ)) (t : Bool) → (a then 6 unless t then a) ≡ Refused k → a ≡ Refused k
+      go (Served x) t e = past-test 6 k t (Served x) (ne-eqb 6 k (omega arith)) e .1
+      go (Refused m) t e = e
+
+  -- 6: a list of wrong length
+  pub made-6 : (madeOf h bytes n ≡ Refused 6) ↔ (Serves (checkOf h bytes) × WrongLength n bytes)
+  unfolding madeOf
+  made-6 = (refused, λ s. rw (s .0 .1, ne-eqb n (blocks (length bytes)) (s .1)))
+    where
+      never : checkOf h bytes ≡ Refused 6 → ⊥
+      never e = omega (arith, check-numbers h bytes 6 e)
+
+      refused : madeOf h bytes n ≡ Refused 6 → Serves (checkOf h bytes) × WrongLength n bytes
+      refused e =
+          let s = past-first (checkOf h bytes) _ never e in
+          ((s .0, s .1), eqb-false n (blocks (length bytes)) (by-test 6 (eqb n (blocks (length bytes))) (checkOf h bytes) never (s .2)))
+
+-- ---- membership
+
+module _ (h : ℕ) (bytes d : List ℕ) (r c : ℕ) where
+  -- what is asked of it
+  abbrev member-rest : Answer Bool
+  member-rest = 12 unless onBoard h r c then Served (stored h bytes r c)
+
+  member-never : (k : ℕ) → k < 12 → member-rest ≡ Refused k → ⊥
+  member-never k l e = not-both (sym (past-test 12 k (onBoard h r c) _ (ne-eqb 12 k (omega arith)) e .1))
+
+  pub member-those : (k : ℕ) → k ≤ 5 → (memberOf h bytes d r c ≡ Refused k) ↔ (checkOf h bytes ≡ Refused k)
+  unfolding memberOf
+  member-those k l = those h bytes d member-rest k l (member-never k (omega arith))
+
+  -- 6: a directory of wrong length, or a wrong entry
+  pub member-6 : (memberOf h bytes d r c ≡ Refused 6) ↔ (Serves (checkOf h bytes) × (WrongLength (length d) bytes ⊎ WrongEntry d bytes))
+  unfolding memberOf
+  member-6 = six h bytes d member-rest (member-never 6 (omega arith))
+
+  -- 12: the cell is not on the board
+  pub member-12 : (memberOf h bytes d r c ≡ Refused 12) ↔ (Serves (checkOf h bytes) × (d ≡ directoryOf bytes) × (CellOn h r c → ⊥))
+  unfolding memberOf
+  member-12 =
+      let on = not-passed (onBoard h r c) (cell-on h r c) in
+      let asked = after-six h bytes d member-rest 12 (omega arith) in
+      ((λ e. let s = asked .0 e in (s .0, s .1, on .0 (by-test 12 (onBoard h r c) _ (λ f. not-both (sym f)) (s .2)))), λ s. asked .1 (s .0, s .1, rw (on .1 (s .2))))
+
+-- ---- the window
+
+module _ (h : ℕ) (bytes d : List ℕ) (w : Window) (rows columns : ℕ) where
+  -- whether it is on the board
+  abbrev fits : Bool
+  fits = endsFit h (w .top) (w .bottom) && endsFit h (w .left) (w .right)
+
+  -- what is asked of it
+  abbrev window-rest : Answer ℕ
+  window-rest = 12 unless fits then roomed (length (found w h bytes)) rows columns
+
+  -- both lists have the room
+  abbrev room : Bool
+  room = leb (length (found w h bytes)) rows && leb (length (found w h bytes)) columns
+
+  roomed-never : (k : ℕ) → (9 ≡ k → ⊥) → roomed (length (found w h bytes)) rows columns ≡ Refused k → ⊥
+  unfolding roomed
+  roomed-never k n e = not-both (sym (past-test 9 k room _ (ne-eqb 9 k n) e .1))
+
+  window-never : (k : ℕ) → k < 9 → window-rest ≡ Refused k → ⊥
+  window-never k l e = roomed-never k (omega arith) (past-test 12 k fits _ (ne-eqb 12 k (omega arith)) e .1)
+
+  window-on : (fits ≡ true) ↔ WindowOn h w
+  unfolding endsFit
+  window-on = (on, λ o. rw (lt-ltb (w .top) (2 ^ h) (o .0 .0), lt-ltb (w .bottom) (2 ^ h) (o .1 .0), le-leb (w .top) (w .bottom) (o .2), lt-ltb (w .left) (2 ^ h) (o .0 .1), lt-ltb (w .right) (2 ^ h) (o .1 .1), le-leb (w .left) (w .right) (o .3)))
+    where
+      ends-on : (lowest highest : ℕ) → endsFit h lowest highest ≡ true → (lowest < 2 ^ h) × (highest < 2 ^ h) × (lowest ≤ highest)
+      ends-on lowest highest e =
+          let t = both (ltb lowest (2 ^ h) && ltb highest (2 ^ h)) (leb lowest highest) e in
+          let s = both (ltb lowest (2 ^ h)) (ltb highest (2 ^ h)) (t .0) in
+          (ltb-true lowest (2 ^ h) (s .0), ltb-true highest (2 ^ h) (s .1), leb-true lowest highest (t .1))
+
+      on : fits ≡ true → WindowOn h w
+      on e =
+          let t = both (endsFit h (w .top) (w .bottom)) (endsFit h (w .left) (w .right)) e in
+          let rs = ends-on (w .top) (w .bottom) (t .0) in
+          let cs = ends-on (w .left) (w .right) (t .1) in
+          ((rs .0, cs .0), (rs .1, cs .1), rs .2, cs .2)
+
+  pub window-those : (k : ℕ) → k ≤ 5 → (windowOf h bytes d w rows columns ≡ Refused k) ↔ (checkOf h bytes ≡ Refused k)
+  unfolding windowOf
+  window-those k l = those h bytes d window-rest k l (window-never k (omega arith))
+
+  -- 6: a directory of wrong length, or a wrong entry
+  pub window-6 : (windowOf h bytes d w rows columns ≡ Refused 6) ↔ (Serves (checkOf h bytes) × (WrongLength (length d) bytes ⊎ WrongEntry d bytes))
+  unfolding windowOf
+  window-6 = six h bytes d window-rest (window-never 6 (omega arith))
+
+  -- 12: an end is not on the board, or a lowest is above its highest
+  pub window-12 : (windowOf h bytes d w rows columns ≡ Refused 12) ↔ (Serves (checkOf h bytes) × (d ≡ directoryOf bytes) × (WindowOn h w → ⊥))
+  unfolding windowOf
+  window-12 =
+      let on = not-passed fits window-on in
+      let asked = after-six h bytes d window-rest 12 (omega arith) in
+      ((λ e. let s = asked .0 e in (s .0, s .1, on .0 (by-test 12 fits _ (roomed-never 12 (omega arith)) (s .2)))), λ s. asked .1 (s .0, s .1, rw (on .1 (s .2))))
+
+  -- 9: a list is shorter than the cells found
+  pub window-9 : (windowOf h bytes d w rows columns ≡ Refused 9)
+      ↔ (Serves (checkOf h bytes) × (d ≡ directoryOf bytes) × WindowOn h w × ((rows < length (found w h bytes)) ⊎ (columns < length (found w h bytes))))
+  unfolding windowOf roomed
+  window-9 = (refused, λ s. after-six h bytes d window-rest 9 (omega arith) .1 (s .0, s .1, rw (window-on .1 (s .2)) (short-room (s .3))))
+    where
+      short-room : (rows < length (found w h bytes)) ⊎ (columns < length (found w h bytes)) → roomed (length (found w h bytes)) rows columns ≡ Refused 9
+      short-room (inl k) = rw (lt-leb (length (found w h bytes)) rows k)
+      short-room (inr k) = test-cases (leb (length (found w h bytes)) rows) (λ e. rw (e, lt-leb (length (found w h bytes)) columns k)) (λ e. rw e)
+
+      room-short : room ≡ false → (rows < length (found w h bytes)) ⊎ (columns < length (found w h bytes))
+      room-short e = test-cases (leb (length (found w h bytes)) rows) (λ t. inr (leb-false _ _ (rw t at e))) (λ t. inl (leb-false _ _ t))
+
+      refused : windowOf h bytes d w rows columns ≡ Refused 9
+          → Serves (checkOf h bytes) × (d ≡ directoryOf bytes) × WindowOn h w × ((rows < length (found w h bytes)) ⊎ (columns < length (found w h bytes)))
+      refused e =
+          let s = after-six h bytes d window-rest 9 (omega arith) .0 e in
+          let t = past-test 12 9 fits _ refl (s .2) in
+          (s .0, s .1, window-on .0 (t .0), room-short (by-test 9 room (Served (length (found w h bytes))) (λ f. not-both (sym f)) (t .1)))
