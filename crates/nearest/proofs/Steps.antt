@@ -117,6 +117,14 @@ module _ (p : Place) (bytes directory : List ℕ) (t : Tally) (ks cs : List ℕ)
       rw (o .is .left, o .is .group) (length-kids p (s .height) bytes (s .sound) (o .level) (entryOf x c .group) (entryOf x c .box)) in
       record { keys-room = omega (arith, step-room, s .keys-room, tk .keys-long); corners-room = omega (arith, step-room, s .corners-room, tk .corners-long) }
 
+  -- what is pending and what is handed out have room in the keys
+  room : t .pending + t .handed ≤ length ks
+  room = omega (arith, go .searching .keys-room, held)
+
+  -- what was handed out stays where an entry is taken
+  handed-stay : handedIn (t .handed) ks′ ≡ handedIn (t .handed) ks
+  handed-stay = handed-same (t .handed) (t .pending) ks ks′ (tk .keys-long) room (tk .behind)
+
   -- the joint that left joins the answer
   pub stepped-joint : (trail : List ℕ) → kindOf x ≡ 1
       → Stepped p bytes t ks cs trail (record { opened = t .opened; pending = t .pending - 1; handed = t .handed + 1 }) (set ks′ (length ks′ - 1 - t .handed) x) cs′ trail
@@ -126,7 +134,6 @@ module _ (p : Place) (bytes directory : List ℕ) (t : Tally) (ks cs : List ℕ)
       let none = pending-joint p (s .height) bytes (s .sound) (s .wanted) (s .underway) x c (tk .corner-fits) was-there joint in
       let is-joint : isJoint x ≡ true = eq-eqb (kindOf x) 1 joint in
       let no-box : isBox x ≡ false = ne-eqb (kindOf x) 0 (omega arith) in
-      let room : t .pending + t .handed ≤ length ks = omega (arith, s .keys-room, held) in
       record {
         key = x;
         corner = c;
@@ -134,11 +141,11 @@ module _ (p : Place) (bytes directory : List ℕ) (t : Tally) (ks cs : List ℕ)
         smallest = tk .smallest;
         rest = pendingIn (t .pending - 1) ks′ cs′;
         leaves = tk .leaves;
-        comes = λ y. rw (none, pending-behind (t .pending - 1) (length ks′ - 1 - t .handed) x ks′ cs′ (omega (arith, tk .keys-long))) (omega arith);
+        comes = λ y. rw (none, pending-behind (t .pending - 1) (length ks′ - 1 - t .handed) x ks′ cs′ (omega (arith, tk .keys-long, room))) (omega arith);
         pending-is = rw none (omega arith);
         trail-is = rw no-box refl;
         opened-is = rw no-box (omega arith);
-        handed-are = rw is-joint (handed-more (t .handed) x ks′ (omega (arith, tk .keys-long, go .some)) ∙ ap (λ (l : List ℕ). l ++ x ∷ []) (handed-same (t .handed) (t .pending) ks ks′ (tk .keys-long) room (tk .behind)));
+        handed-are = rw is-joint (handed-more (t .handed) x ks′ (omega (arith, tk .keys-long, go .some, room)) ∙ ap (λ (l : List ℕ). l ++ x ∷ []) handed-stay);
         handed-is = rw is-joint refl;
         keys-long = length-set ks′ _ x ∙ tk .keys-long;
         corners-long = tk .corners-long;
@@ -155,7 +162,6 @@ module _ (p : Place) (bytes directory : List ℕ) (t : Tally) (ks cs : List ℕ)
       let new = map (packOf p) (kids bytes (entryOf x c)) in
       let many : length new ≡ length (kids bytes (entryOf x c)) = length-map (kids bytes (entryOf x c)) (packOf p) in
       let counted : n ≡ t .pending - 1 + length new = omega (arith, o .counted) in
-      let room : t .pending + t .handed ≤ length ks = omega (arith, s .keys-room, held) in
       record {
         key = x;
         corner = c;
@@ -168,7 +174,7 @@ module _ (p : Place) (bytes directory : List ℕ) (t : Tally) (ks cs : List ℕ)
         trail-is = rw is-box refl;
         opened-is = rw is-box refl;
         handed-are = rw (no-joint, append-nil) (handed-same (t .handed) (t .pending - 1 + length new) ks′ ks″ (o .added .keys-long) (omega (arith, step-room, tk .keys-long, s .keys-room)) (o .added .behind)
-            ∙ handed-same (t .handed) (t .pending) ks ks′ (tk .keys-long) room (tk .behind));
+            ∙ handed-stay);
         handed-is = rw no-joint (omega arith);
         keys-long = o .added .keys-long ∙ tk .keys-long;
         corners-long = o .added .corners-long ∙ tk .corners-long;

@@ -12,7 +12,6 @@ use Rattle.board.specs.Levels.{joints}
 use Rattle.board.specs.Check.{checkOf}
 use Rattle.search.specs.Question.{answerKeys, trail}
 use Rattle.nearest.specs.declared.distance.Place.{Place}
-use Rattle.nearest.specs.declared.answer.Answer as answer
 use Rattle.nearest.specs.declared.gate.Gate.{Gate}
 use Rattle.nearest.specs.declared.gate.Gate.the-variants.{Open, Shut}
 use Rattle.nearest.specs.declared.ask.Nearest.{Nearest}

@@ -55,7 +55,6 @@ use Rattle.nearest.proofs.ask.Nearest as T-Nearest
 use Rattle.nearest.proofs.ask.Nearest.Laws as L-Nearest
 use Rattle.nearest.specs.declared.answer.Answer.{Answer}
 use Rattle.nearest.proofs.answer.Answer as T-Answer
-use Rattle.nearest.proofs.answer.Answer.Laws as L-Answer
 use Rattle.nearest.specs.declared.distance.Place.{Place}
 use Rattle.nearest.proofs.distance.Place as T-Place
 use Rattle.nearest.proofs.distance.Place.Laws as L-Place
@@ -89,14 +88,8 @@ Needs-0 height bytes directory row column k answers keys corners trail = Unit {0
 abbrev Done-0 : ℕ → List ℕ → List ℕ → ℤ → ℤ → ℕ → List Answer → List ℕ → List ℕ → List ℕ → Nearest → List Answer → List ℕ → List ℕ → List ℕ → Type 0
 Done-0 height bytes directory row column k answers keys corners trail r answers′ keys′ corners′ trail′ = Kept height (bytes) (directory) row column k (record { answers = answers; keys = keys; corners = corners; trail = trail }) r (record { answers = answers′; keys = keys′; corners = corners′; trail = trail′ })
 
-abbrev Needs-1 : ℕ → List ℕ → List ℕ → Place → ℕ → ℕ → List ℕ → List ℕ → List ℕ → Type 0
-Needs-1 height bytes directory p k answers keys corners trail = Unit {0}
-
 abbrev Done-1 : ℕ → List ℕ → List ℕ → Place → ℕ → ℕ → List ℕ → List ℕ → List ℕ → Nearest → List ℕ → List ℕ → List ℕ → Type 0
 Done-1 height bytes directory p k answers keys corners trail r keys′ corners′ trail′ = Asked height (bytes) (directory) p k answers (keys) (corners) (trail) r (keys′) (corners′) (trail′)
-
-abbrev Needs-2 : Nearest → Type 0
-Needs-2 r = Unit {0}
 
 abbrev Done-2 : Nearest → ℕ → Type 0
 Done-2 r n = n ≡ jointsOf r
@@ -106,9 +99,6 @@ Needs-3 keys n list = (Handed n (keys)) × (n ≤ length (list))
 
 abbrev Done-3 : List ℕ → ℕ → List Answer → Unit {0} → List ℕ → List Answer → Type 0
 Done-3 keys n list r keys′ list′ = (list′ ≡ filled (handedIn n (keys)) (length (list))) × (keys′ ≡ keys)
-
-abbrev Needs-4 : List ℕ → Type 0
-Needs-4 list = Unit {0}
 
 abbrev Done-4 : List ℕ → Unit {0} → List ℕ → Type 0
 Done-4 list r list′ = list′ ≡ replicate (length (list)) 0
@@ -137,9 +127,6 @@ mach-Nearest r = EL.val T-Nearest.the-type L-Nearest.the-laws r
 abbrev R-Answer : RattleType
 R-Answer = T-Answer.the-row
 
-abbrev mach-Answer : Answer → Val
-mach-Answer r = LL.tuple-val T-Answer.the-type L-Answer.the-laws (T-Answer.the-type .to r)
-
 abbrev R-Place : RattleType
 R-Place = T-Place.the-row
 
@@ -165,9 +152,6 @@ module _ {M : Type 1} (𝓤 : URA M) (H : Heap 𝓤) (A : Atoms 𝓤) (W : Given
     (κ-0 : Lft) (q-0 : Share) (κ-1 : Lft) (q-1 : Share) (κ-2 : Lft) (q-2 : Share) (κ-3 : Lft) (q-3 : Share) (κ-4 : Lft) (q-4 : Share) (κ-5 : Lft) (q-5 : Share) (v-height : ℕ) (fits-height : v-height < 2 ^ 32) (b-bytes o-bytes : ℕ) (γ-bytes : GName) (v-bytes : List ℕ) (room-bytes : Room u8 (length v-bytes)) (b-directory o-directory : ℕ) (γ-directory : GName) (v-directory : List ℕ) (room-directory : Room u16 (length v-directory)) (v-row : ℤ) (fits-row : mag v-row < 2 ^ 31) (v-column : ℤ) (fits-column : mag v-column < 2 ^ 31) (v-k : ℕ) (fits-k : v-k < 2 ^ 32) (b-answers o-answers : ℕ) (γ-answers : GName) (v-answers : List Answer) (room-answers : Room R-Answer (length v-answers)) (b-keys o-keys : ℕ) (γ-keys : GName) (v-keys : List ℕ) (room-keys : Room u64 (length v-keys)) (b-corners o-corners : ℕ) (γ-corners : GName) (v-corners : List ℕ) (room-corners : Room u32 (length v-corners)) (b-trail o-trail : ℕ) (γ-trail : GName) (v-trail : List ℕ) (room-trail : Room u32 (length v-trail)) (need : Needs-0 v-height v-bytes v-directory v-row v-column v-k v-answers v-keys v-corners v-trail) where
   typed-Nearest : (r : Nearest) (v : Val) → Is R-Nearest r (v ∷ []) → Holds (hasTy L-Nearest.mir v) × WT v
   typed-Nearest r v is = EL.lawful T-Nearest.the-type L-Nearest.the-laws 𝓤 H A W tt .typed r _ is .0
-
-  typed-Answer : (r : Answer) (v : Val) → Is R-Answer r (v ∷ []) → Holds (hasTy L-Answer.mir v) × WT v
-  typed-Answer r v is = LL.lawful T-Answer.the-type L-Answer.the-laws 𝓤 H A W .typed r _ is .0
 
   typed-Place : (r : Place) (v : Val) → Is R-Place r (v ∷ []) → Holds (hasTy L-Place.mir v) × WT v
   typed-Place r v is = LL.lawful T-Place.the-type L-Place.the-laws 𝓤 H A W .typed r _ is .0

@@ -45,7 +45,6 @@ use mathlib.Core.WellFounded.{WellFounded, InvImage·wf}
 use lib.WfN.{Nat·lt-wfRel}
 use Rattle.nearest.specs.Step.{handedIn}
 use Rattle.nearest.specs.Answers.{zeroAnswer, answerOf, filled, Handed}
-use Rattle.search.specs.Near as spec
 use Rattle.nearest.specs.declared.answer.Answer.{Answer}
 use Rattle.nearest.proofs.answer.Answer as T-Answer
 use Rattle.nearest.proofs.answer.Answer.Laws as L-Answer
@@ -235,12 +234,7 @@ module _ {M : Type 1} (𝓤 : URA M) (H : Heap 𝓤) (A : Atoms 𝓤) (W : Given
         owned ! u64 (Is u64) (uint-makes 𝓤 H A W w64) (s .n4) _ (refl, s .fits4) $
         fjoin ! $
         owned ! u64 (Is u64) (uint-makes 𝓤 H A W w64) v-n _ (refl, fits-n) $
-        fjoin ! $
-        move ! (1 ∷ 0 ∷ []) $
-        fjoin ! $
-        nothing ! $
-        move ! (3 ∷ 0 ∷ []) $
-        join ! $
+        fjoin ! $ move ! (1 ∷ 0 ∷ []) $ fjoin ! $ nothing ! $ move ! (3 ∷ 0 ∷ []) $ join ! $
         use2 W (raw (C-1 𝓤 H A at-mem run .pre ((((ν1-0 ∷ []), tt), (fullShare, tt), tt, ((record { ptr = (b-keys, o-keys); name = δ1-0; now = (s .l-keys) }), (v-n, ((s .n4), tt))), (sliceVal (b-keys, o-keys) (length v-keys) ∷ [], (vint w64 v-n ∷ [], (vint w64 (s .n4) ∷ [], tt)))), tt))) (qed W ((‵ (flft (ν1-0 ∷ []) fullShare) ⊛ ‵ ftrue) ∷ ‵ (owns (MutSlice (named 0) (ν1-0 ∷ []) u64 ∷ u64 ∷ u64 ∷ []) ((record { ptr = (b-keys, o-keys); name = δ1-0; now = (s .l-keys) }), (v-n, ((s .n4), tt))) (sliceVal (b-keys, o-keys) (length v-keys) ∷ [], (vint w64 v-n ∷ [], (vint w64 (s .n4) ∷ [], tt)))) ∷ []) ∵ says ! (asks-1 v-keys v-n v-list (s .n4) (s .l-keys) (s .l-list) need (s .inv) (s .fits4) (s .len-keys) (s .len-list) (room-keys .0) (room-keys .1) (room-list .0) (room-list .1) (ltb→lt ((s .n4)) ((length v-list)) test)) $ frame ! $ done !) $
         calls-at ! fm (C-1 𝓤 H A at-mem run) known-1 ((((ν1-0 ∷ []), tt), (fullShare, tt), tt, ((record { ptr = (b-keys, o-keys); name = δ1-0; now = (s .l-keys) }), (v-n, ((s .n4), tt))), (sliceVal (b-keys, o-keys) (length v-keys) ∷ [], (vint w64 v-n ∷ [], (vint w64 (s .n4) ∷ [], tt)))), tt) (and-then ! (load ! (from ! (stop !)) (look ! 20 refl)) (and-then ! (load ! (from ! (stop !)) (look ! 6 refl)) (and-then ! (load ! (from ! (stop !)) (look ! 10 refl)) (no-more !)))) (λ w1.
         use1 W (later (some (λ (r : Answer). ((‵ (flft (ν1-0 ∷ []) fullShare) ⊛ ‵ ftrue) ⊛ ‵ (R-Answer .own r (w1 ∷ []))) ⊛ raw (ensured 𝓤 H A pick-f.ended (pick-f.clauses 𝓤 H A at-mem run) ((ν1-0 ∷ []), tt) ((record { ptr = (b-keys, o-keys); name = δ1-0; now = (s .l-keys) }), (v-n, ((s .n4), tt))) tt r)))) (id⊢ 𝓤 _) $ await ! tt $ pick ! (λ r1. split ! $ move ! (1 ∷ []) $
@@ -248,19 +242,8 @@ module _ {M : Type 1} (𝓤 : URA M) (H : Heap 𝓤) (A : Atoms 𝓤) (W : Given
         heard ! (Done-1 (s .l-keys) v-n (s .n4) r1 (zs1 .0)) (λ e1.
         fsplit ! $
         fsplit ! $ move ! (1 ∷ []) $ feqL ! (λ m1-keys.
-        move ! (1 ∷ []) $
-        fsplit ! $
-        drop ! $
-        fsplit ! $
-        drop ! $
-        drop ! $
-        move ! (1 ∷ []) $
-        split ! $
-        split ! $
-        move ! (1 ∷ []) $
-        drop ! $
-        lft-end ! tt $
-        move ! (0 ∷ 3 ∷ 2 ∷ []) $
+        move ! (1 ∷ []) $ fsplit ! $ drop ! $ fsplit ! $ drop ! $ drop ! $ move ! (1 ∷ []) $ split ! $ split ! $ move ! (1 ∷ []) $ drop ! $
+        lft-end ! tt $ move ! (0 ∷ 3 ∷ 2 ∷ []) $
         use3 W (later (‵ (MutSlice (named 0) κ-0 u64 .own (record { ptr = (b-keys, o-keys); name = γ-keys; now = (zs1 .0) }) (sliceVal (b-keys, o-keys) (length v-keys) ∷ [])) ⊛ ‵ (flft κ-0 q-0))) (back-at u64 κ-0 (ν1-0 ∷ []) q-0 γ-keys b-keys o-keys 𝓤 H A W (named 0) (named 0) (s .l-keys) (length v-keys) (s .len-keys) δ1-0 (zs1 .0) room-keys m1-keys) $ await ! tt $ split ! $
         move ! (2 ∷ []) $
         peeks ! R-Answer (Is R-Answer) (shows 𝓤 H A R-Answer) r1 (w1 ∷ []) (λ isr1. drop ! $
@@ -275,12 +258,7 @@ module _ {M : Type 1} (𝓤 : URA M) (H : Heap 𝓤) (A : Atoms 𝓤) (W : Given
         owned ! R-Answer (Is R-Answer) (LL.makes T-Answer.the-type L-Answer.the-plain 𝓤 H A) r1 _ (LL.owes T-Answer.the-type L-Answer.the-laws r1 (LL.owed T-Answer.the-type L-Answer.the-laws r1 _ isr1)) $
         fjoin ! $
         owned ! u64 (Is u64) (uint-makes 𝓤 H A W w64) (s .n4) _ (refl, s .fits4) $
-        fjoin ! $
-        move ! (1 ∷ 0 ∷ []) $
-        fjoin ! $
-        nothing ! $
-        move ! (3 ∷ 0 ∷ []) $
-        join ! $
+        fjoin ! $ move ! (1 ∷ 0 ∷ []) $ fjoin ! $ nothing ! $ move ! (3 ∷ 0 ∷ []) $ join ! $
         use2 W (raw (C-2 𝓤 H A at-mem run .pre ((((ν2-0 ∷ []), tt), (fullShare, tt), tt, ((record { ptr = (b-list, o-list); name = δ2-0; now = (s .l-list) }), ((s .n4), (r1, tt))), (sliceVal (b-list, o-list) (length v-list) ∷ [], (vint w64 (s .n4) ∷ [], ((mach-Answer r1) ∷ [], tt)))), tt))) (qed W ((‵ (flft (ν2-0 ∷ []) fullShare) ⊛ ‵ ftrue) ∷ ‵ (owns (MutSlice (named 0) (ν2-0 ∷ []) R-Answer ∷ u64 ∷ R-Answer ∷ []) ((record { ptr = (b-list, o-list); name = δ2-0; now = (s .l-list) }), ((s .n4), (r1, tt))) (sliceVal (b-list, o-list) (length v-list) ∷ [], (vint w64 (s .n4) ∷ [], ((mach-Answer r1) ∷ [], tt)))) ∷ []) ∵ says ! (asks-2 v-keys v-n v-list (s .n4) (s .l-keys) (s .l-list) r1 (zs1 .0) need (s .inv) (s .fits4) (s .len-keys) (s .len-list) (room-keys .0) (room-keys .1) (room-list .0) (room-list .1) (ltb→lt ((s .n4)) ((length v-list)) test) e1 m1-keys) $ frame ! $ done !) $
         calls-at ! fm (C-2 𝓤 H A at-mem run) known-2 ((((ν2-0 ∷ []), tt), (fullShare, tt), tt, ((record { ptr = (b-list, o-list); name = δ2-0; now = (s .l-list) }), ((s .n4), (r1, tt))), (sliceVal (b-list, o-list) (length v-list) ∷ [], (vint w64 (s .n4) ∷ [], ((mach-Answer r1) ∷ [], tt)))), tt) (and-then ! (load ! (from ! (stop !)) (look ! 28 refl)) (and-then ! (load ! (from ! (stop !)) (look ! 12 refl)) (and-then ! (load ! (from ! (stop !)) (look ! 14 refl)) (no-more !)))) (λ w2.
         use1 W (later (some (λ (r : Unit {0}). ((‵ (flft (ν2-0 ∷ []) fullShare) ⊛ ‵ ftrue) ⊛ ‵ (Nothing .own r (w2 ∷ []))) ⊛ raw (ensured 𝓤 H A put-f.ended (put-f.clauses 𝓤 H A at-mem run) ((ν2-0 ∷ []), tt) ((record { ptr = (b-list, o-list); name = δ2-0; now = (s .l-list) }), ((s .n4), (r1, tt))) tt r)))) (id⊢ 𝓤 _) $ await ! tt $ pick ! (λ r2. split ! $ move ! (1 ∷ []) $
@@ -288,19 +266,8 @@ module _ {M : Type 1} (𝓤 : URA M) (H : Heap 𝓤) (A : Atoms 𝓤) (W : Given
         heard ! (Done-2 (s .l-list) (s .n4) r1 r2 (zs2 .0)) (λ e2.
         fsplit ! $
         fsplit ! $ move ! (1 ∷ []) $ feqL ! (λ m2-list.
-        move ! (1 ∷ []) $
-        fsplit ! $
-        drop ! $
-        fsplit ! $
-        drop ! $
-        drop ! $
-        move ! (1 ∷ []) $
-        split ! $
-        split ! $
-        move ! (1 ∷ []) $
-        drop ! $
-        lft-end ! tt $
-        move ! (0 ∷ 3 ∷ 2 ∷ []) $
+        move ! (1 ∷ []) $ fsplit ! $ drop ! $ fsplit ! $ drop ! $ drop ! $ move ! (1 ∷ []) $ split ! $ split ! $ move ! (1 ∷ []) $ drop ! $
+        lft-end ! tt $ move ! (0 ∷ 3 ∷ 2 ∷ []) $
         use3 W (later (‵ (MutSlice (named 1) κ-1 R-Answer .own (record { ptr = (b-list, o-list); name = γ-list; now = (zs2 .0) }) (sliceVal (b-list, o-list) (length v-list) ∷ [])) ⊛ ‵ (flft κ-1 q-1))) (back-at R-Answer κ-1 (ν2-0 ∷ []) q-1 γ-list b-list o-list 𝓤 H A W (named 1) (named 0) (s .l-list) (length v-list) (s .len-list) δ2-0 (zs2 .0) room-list m2-list) $ await ! tt $ split ! $
         move ! (2 ∷ []) $
         feqL ! (λ ew2.
@@ -312,34 +279,11 @@ module _ {M : Type 1} (𝓤 : URA M) (H : Heap 𝓤) (A : Atoms 𝓤) (W : Given
         (λ test. jumps ! $ exec ! C Λ En piece.t-3 (atRet En Post) $
         assigns ! (of-opd ! (unit-lit !)) (from ! (stop !)) (init ! 0 refl (tt, tt)) $
         returns ! (look ! 0 refl) $ forget ! 0 refl $ forget ! 2 refl $ forget ! 4 refl $ forget ! 6 refl $ forget ! 8 refl $ forget ! 12 refl $ forget ! 14 refl $
-        free1 ! $
-        free1 ! $
-        free1 ! $
-        free1 ! $
-        free1 ! $
-        free1 ! $
-        free1 ! $
-        free1 ! $
-        free1 ! $
-        free1 ! $
-        free1 ! $
-        free1 ! $
-        free1 ! $
+        free1 ! $ free1 ! $ free1 ! $ free1 ! $ free1 ! $ free1 ! $ free1 ! $ free1 ! $ free1 ! $ free1 ! $ free1 ! $ free1 ! $ free1 ! $
         free0 ! $
         suffices ! _ (ends-at 𝓤 H A deliver-f.ended stayed (deliver-f.clauses 𝓤 H A at-mem run) W (((κ-0, (κ-1, tt)), (q-0, (q-1, tt)), tt, a, vals), tt) vunit tt ((s .l-keys), (tt, ((s .l-list), tt))) ((s .len-keys), (tt, ((s .len-list), tt)))) $ says ! (says-deliver v-keys v-n v-list (s .n4) (s .l-keys) (s .l-list) need (s .inv) (s .fits4) (s .len-keys) (s .len-list) (room-keys .0) (room-keys .1) (room-list .0) (room-list .1) (nltb→le ((s .n4)) ((length v-list)) test)) $
-        nothing ! $
-        move ! (2 ∷ 0 ∷ []) $
-        join ! $
-        move ! (1 ∷ 0 ∷ []) $
-        join ! $
-        frame ! $
-        nothing ! $
-        move ! (2 ∷ 0 ∷ []) $
-        fjoin ! $
-        nothing ! $
-        fjoin ! $
-        move ! (1 ∷ 0 ∷ []) $
-        fjoin ! $
+        nothing ! $ move ! (2 ∷ 0 ∷ []) $ join ! $ move ! (1 ∷ 0 ∷ []) $ join ! $ frame ! $ nothing ! $ move ! (2 ∷ 0 ∷ []) $ fjoin ! $
+        nothing ! $ fjoin ! $ move ! (1 ∷ 0 ∷ []) $ fjoin ! $
         feqI ! (List Val) (vunit ∷ []) (vunit ∷ []) refl $ move ! (1 ∷ 0 ∷ []) $
         keep ! (0 ∷ 1 ∷ []) $ done !)
 
@@ -347,9 +291,6 @@ module _ {M : Type 1} (𝓤 : URA M) (H : Heap 𝓤) (A : Atoms 𝓤) (W : Given
   first-state = record { n4 = 0; l-keys = v-keys; l-list = v-list; fits4 = lit< tt; len-keys = refl; len-list = refl; inv = (starts v-keys v-n v-list need) }
 
   module _ (𝓣 : Tables 𝓤 H) (known-1 : Triple 𝓤 (𝓣 .C #nearest·answer·pick) (C-1 𝓤 H A at-mem run)) (known-2 : Triple 𝓤 (𝓣 .C #nearest·answer·put) (C-2 𝓤 H A at-mem run)) where
-    abbrev C₁ : Calls 𝓤 H
-    C₁ = 𝓣 .C
-
     walk : ent 𝓤 (onEntry 𝓤 H A deliver-f.signature (κ-0, (κ-1, tt)) (q-0, (q-1, tt)) a vals) (WpFn 𝓤 H (𝓣 .C) (𝓣 .Λ) code.function (sliceVal (b-keys, o-keys) (length v-keys) ∷ vint w64 v-n ∷ sliceVal (b-list, o-list) (length v-list) ∷ []) Post)
     walk =
         qed W ((‵ (flft κ-0 q-0) ⊛ ‵ (flft κ-1 q-1) ⊛ ‵ ftrue) ∷ ‵ (owns (MutSlice (named 0) κ-0 u64 ∷ u64 ∷ MutSlice (named 1) κ-1 R-Answer ∷ []) a vals) ∷ []) ∵
@@ -359,20 +300,8 @@ module _ {M : Type 1} (𝓤 : URA M) (H : Heap 𝓤) (A : Atoms 𝓤) (W : Given
         pass1 ! (init ! 20 refl (tt, record { fits = fits-n })) $
         pass1 ! (init ! 18 refl (tt, (tt, (record { fits = room-list .0 }, tt)))) $
         pass0 ! $
-        move ! (26 ∷ []) $
-        split ! $
-        move ! (1 ∷ []) $
-        split ! $
-        move ! (1 ∷ []) $
-        drop ! $
-        move ! (28 ∷ []) $
-        fsplit ! $
-        move ! (1 ∷ []) $
-        fsplit ! $
-        drop ! $
-        fsplit ! $
-        move ! (1 ∷ []) $
-        drop ! $
+        move ! (26 ∷ []) $ split ! $ move ! (1 ∷ []) $ split ! $ move ! (1 ∷ []) $ drop ! $ move ! (28 ∷ []) $ fsplit ! $ move ! (1 ∷ []) $
+        fsplit ! $ drop ! $ fsplit ! $ move ! (1 ∷ []) $ drop ! $
         assigns ! (of-opd ! (lit ! tt)) (from ! (stop !)) (init ! 20 refl (tt, record { fits = lit< tt })) $
         keep ! (28 ∷ 29 ∷ 26 ∷ 27 ∷ 24 ∷ 25 ∷ 22 ∷ 23 ∷ 20 ∷ 21 ∷ 18 ∷ 19 ∷ 16 ∷ 17 ∷ 14 ∷ 15 ∷ 12 ∷ 13 ∷ 10 ∷ 11 ∷ 8 ∷ 9 ∷ 6 ∷ 7 ∷ 4 ∷ 5 ∷ 3 ∷ 2 ∷ 1 ∷ 0 ∷ []) $
         first ! $ blocks ! $ loops ! 𝓣 Nearer Nearer-wf (At 𝓣 known-1 known-2 l0 l1 l2 l3 l4 l5 l6 l7 l8 l9 l10 l11 l12) (turns 𝓣 known-1 known-2 l0 l1 l2 l3 l4 l5 l6 l7 l8 l9 l10 l11 l12) first-state)))))))))))))

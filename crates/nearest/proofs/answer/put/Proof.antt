@@ -39,7 +39,6 @@ use denote.Triple.Walked.{says, needs, Stays, stay-dropped, stay-slice, walkOf, 
 use denote.Exit.{yes}
 use denote.Shadow.{pureI}
 use denote.Index.{place-is, elem-out, elem-put, opens-slice, closes-slice}
-use Rattle.search.specs.Near as spec
 use Rattle.nearest.specs.declared.answer.Answer.{Answer}
 use Rattle.nearest.proofs.answer.Answer as T-Answer
 use Rattle.nearest.proofs.answer.Answer.Laws as L-Answer
@@ -105,62 +104,28 @@ module _ {M : Type 1} (𝓤 : URA M) (H : Heap 𝓤) (A : Atoms 𝓤) (W : Given
         pass1 ! (init ! 6 refl (tt, record { fits = fits-at })) $
         pass1 ! (init ! 4 refl (typed-Answer v-a _ is-a)) $
         pass0 ! $
-        move ! (12 ∷ []) $
-        split ! $
-        move ! (1 ∷ []) $
-        drop ! $
-        move ! (13 ∷ []) $
-        fsplit ! $
-        move ! (1 ∷ []) $
-        fsplit ! $
-        drop ! $
-        fsplit ! $
-        drop ! $
-        drop ! $
+        move ! (12 ∷ []) $ split ! $ move ! (1 ∷ []) $ drop ! $ move ! (13 ∷ []) $ fsplit ! $ move ! (1 ∷ []) $ fsplit ! $ drop ! $
+        fsplit ! $ drop ! $ drop ! $
         assigns ! (bin ! (load ! (from ! (stop !)) (look ! 8 refl)) (lit ! tt) (record { fits = (sums-1 v-list v-at v-a need (room-list .0) (room-list .1) fits-at) })) (from ! (stop !)) (init ! 4 refl (tt, record { fits = (sums-1 v-list v-at v-a need (room-list .0) (room-list .1) fits-at) })) $
         assigns ! (bin ! (load ! (from ! (fld ! refl (stop !))) (look-in ! 10 (sub ! 0 refl (whole !)))) (load ! (from ! (stop !)) (look ! 4 refl)) tt) (from ! (stop !)) (init ! 2 refl (tt, tt)) $
         rewrite ! 2 (λ (u : ℕ). ‵ (fat fullShare tyPtr l5 0 (vptr b-list u))) (sym (place-is 12 o-list v-at)) refl $
-        fsplit ! $ move ! (1 ∷ []) $ fsplit ! $
-        move ! (0 ∷ 1 ∷ 3 ∷ []) $
+        fsplit ! $ move ! (1 ∷ []) $ fsplit ! $ move ! (0 ∷ 1 ∷ 3 ∷ []) $
         opens-slice ! tt R-Answer v-list b-list o-list $
         elem-out ! R-Answer (Is R-Answer) (shows 𝓤 H A R-Answer) (LL.vals T-Answer.the-type L-Answer.the-laws) (LL.tells T-Answer.the-type L-Answer.the-laws) fullShare v-list v-at (record { row = 0; column = 0; distance = 0 }) b-list o-list (index-1 v-list v-at v-a need (room-list .0) (room-list .1) fits-at) (λ ise1.
         assigns ! (of-opd ! (load ! (from ! (stop !)) (look ! 11 refl))) (from ! (hop ! (look ! 7 refl) (stop !))) (store-raw ! 0 refl (typed-Answer v-a _ is-a)) $
-        move ! (1 ∷ []) $
-        drop ! $
+        move ! (1 ∷ []) $ drop ! $
         owned ! R-Answer (Is R-Answer) (LL.makes T-Answer.the-type L-Answer.the-plain 𝓤 H A) v-a _ is-a $
         move ! (1 ∷ 0 ∷ 2 ∷ []) $
         elem-put ! R-Answer fullShare v-list v-at v-a (mach-Answer v-a ∷ []) b-list o-list (index-1 v-list v-at v-a need (room-list .0) (room-list .1) fits-at) $
         closes-slice ! tt R-Answer v-list (set v-list v-at v-a) (length-set v-list v-at v-a) b-list o-list $
-        move ! (3 ∷ []) $
-        drop ! $
-        fjoin ! $
+        move ! (3 ∷ []) $ drop ! $ fjoin ! $
         pureI ! (at-slice R-Answer (record { ptr = (b-list, o-list); name = γ-list; now = (set v-list v-at v-a) }) (sliceVal (b-list, o-list) (length v-list) ∷ [])) (tt, (tt, tt)) (ap (λ (m : ℕ). sliceVal (b-list, o-list) m ∷ []) (sym (length-set v-list v-at v-a ∙ refl)), subst (Room R-Answer) (sym (length-set v-list v-at v-a ∙ refl)) room-list) $ fjoin ! $
         assigns ! (of-opd ! (unit-lit !)) (from ! (stop !)) (init ! 12 refl (tt, tt)) $
         returns ! (look ! 12 refl) $ forget ! 12 refl $ forget ! 10 refl $ forget ! 8 refl $ forget ! 6 refl $ forget ! 4 refl $ forget ! 2 refl $
-        move ! (12 ∷ 13 ∷ []) $
-        free1 ! $
-        move ! (10 ∷ 11 ∷ []) $
-        free1 ! $
-        move ! (8 ∷ 9 ∷ []) $
-        free1 ! $
-        move ! (6 ∷ 7 ∷ []) $
-        free1 ! $
-        move ! (4 ∷ 5 ∷ []) $
-        free1 ! $
-        move ! (2 ∷ 3 ∷ []) $
-        free1 ! $
-        free0 ! $
+        move ! (12 ∷ 13 ∷ []) $ free1 ! $ move ! (10 ∷ 11 ∷ []) $ free1 ! $ move ! (8 ∷ 9 ∷ []) $ free1 ! $ move ! (6 ∷ 7 ∷ []) $ free1 ! $
+        move ! (4 ∷ 5 ∷ []) $ free1 ! $ move ! (2 ∷ 3 ∷ []) $ free1 ! $ free0 ! $
         suffices ! _ (ends-at 𝓤 H A put-f.ended stayed (put-f.clauses 𝓤 H A at-mem run) W (((κ-0, tt), (q-0, tt), tt, a, vals), tt) vunit tt ((set v-list v-at v-a), (tt, (tt, tt))) ((length-set v-list v-at v-a ∙ refl), (tt, (tt, tt)))) $ says ! (says-put v-list v-at v-a need (room-list .0) (room-list .1) fits-at) $
-        nothing ! $
-        move ! (2 ∷ 0 ∷ []) $
-        join ! $
-        frame ! $
-        nothing ! $
-        nothing ! $
-        fjoin ! $
-        nothing ! $
-        fjoin ! $
-        move ! (1 ∷ 0 ∷ []) $
+        nothing ! $ move ! (2 ∷ 0 ∷ []) $ join ! $ frame ! $ nothing ! $ nothing ! $ fjoin ! $ nothing ! $ fjoin ! $ move ! (1 ∷ 0 ∷ []) $
         fjoin ! $
         feqI ! (List Val) (vunit ∷ []) (vunit ∷ []) refl $ move ! (1 ∷ 0 ∷ []) $
         keep ! (0 ∷ 1 ∷ []) $ done !)))))))

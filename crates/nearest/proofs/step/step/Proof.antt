@@ -39,7 +39,6 @@ use denote.Triple.Clauses.{ensured, lasts}
 use denote.Triple.Table.{entered, cited}
 use denote.Triple.Walked.{says, needs, Stays, stay-dropped, stay-ref, gave-slice, walkOf, goes-dropped, goes-ref, goes-gave-slice, Walks, ends-at, walked, walk-meets}
 use denote.Exit.{yes}
-use Rattle.search.specs.Near as spec
 use Rattle.nearest.specs.Places.{placeOf, Named}
 use Rattle.nearest.specs.Step.{Goes, Stepped}
 use Rattle.nearest.specs.declared.step.Tally.{Tally}
@@ -148,37 +147,10 @@ module _ {M : Type 1} (𝓤 : URA M) (H : Heap 𝓤) (A : Atoms 𝓤) (W : Given
         pass1 ! (init ! 18 refl (tt, (tt, (record { fits = room-corners .0 }, tt)))) $
         pass1 ! (init ! 16 refl (tt, (tt, (record { fits = room-trail .0 }, tt)))) $
         pass0 ! $
-        move ! (32 ∷ []) $
-        split ! $
-        move ! (1 ∷ []) $
-        split ! $
-        move ! (1 ∷ []) $
-        split ! $
-        move ! (1 ∷ []) $
-        split ! $
-        move ! (1 ∷ []) $
-        split ! $
-        move ! (1 ∷ []) $
-        split ! $
-        move ! (1 ∷ []) $
-        drop ! $
-        move ! (38 ∷ []) $
-        fsplit ! $
-        move ! (1 ∷ []) $
-        fsplit ! $
-        drop ! $
-        fsplit ! $
-        move ! (1 ∷ []) $
-        fsplit ! $
-        move ! (1 ∷ []) $
-        fsplit ! $
-        move ! (1 ∷ []) $
-        fsplit ! $
-        move ! (1 ∷ []) $
-        fsplit ! $
-        move ! (1 ∷ []) $
-        drop ! $
-        move ! (5 ∷ []) $
+        move ! (32 ∷ []) $ split ! $ move ! (1 ∷ []) $ split ! $ move ! (1 ∷ []) $ split ! $ move ! (1 ∷ []) $ split ! $ move ! (1 ∷ []) $
+        split ! $ move ! (1 ∷ []) $ split ! $ move ! (1 ∷ []) $ drop ! $ move ! (38 ∷ []) $ fsplit ! $ move ! (1 ∷ []) $ fsplit ! $ drop ! $
+        fsplit ! $ move ! (1 ∷ []) $ fsplit ! $ move ! (1 ∷ []) $ fsplit ! $ move ! (1 ∷ []) $ fsplit ! $ move ! (1 ∷ []) $ fsplit ! $
+        move ! (1 ∷ []) $ drop ! $ move ! (5 ∷ []) $
         fsplit3 ! $ drop ! $
         move ! (0 ∷ 1 ∷ 12 ∷ []) $
         opens ! tt R-Tally {h = v-t} b-t o-t (λ vs-t. spelt ! R-Tally (Is R-Tally) (shows 𝓤 H A R-Tally) (LL.vals T-Tally.the-type L-Tally.the-laws) (LL.tells T-Tally.the-type L-Tally.the-laws) fullShare v-t vs-t b-t o-t $ move ! (1 ∷ []) $
@@ -190,73 +162,29 @@ module _ {M : Type 1} (𝓤 : URA M) (H : Heap 𝓤) (A : Atoms 𝓤) (W : Given
         assigns ! (agg ! (and-then ! (load ! (from ! (stop !)) (look ! 20 refl)) (and-then ! (load ! (from ! (fld ! refl (stop !))) (look-in ! 32 (sub ! 1 refl (whole !)))) (no-more !)))) (from ! (stop !)) (init ! 18 refl (tt, (tt, (record { fits = room-corners .0 }, tt)))) $
         assigns ! (addr ! (from ! (fld ! refl (hop ! (look-in ! 30 (sub ! 0 refl (whole !))) (stop !))))) (from ! (stop !)) (init ! 16 refl (tt, tt)) $
         assigns ! (agg ! (and-then ! (load ! (from ! (stop !)) (look ! 16 refl)) (and-then ! (load ! (from ! (fld ! refl (stop !))) (look-in ! 30 (sub ! 1 refl (whole !)))) (no-more !)))) (from ! (stop !)) (init ! 14 refl (tt, (tt, (record { fits = room-trail .0 }, tt)))) $
-        nothing ! $
-        move ! (5 ∷ 0 ∷ []) $
-        fjoin ! $
-        move ! (5 ∷ 0 ∷ []) $
-        fjoin ! $
-        move ! (5 ∷ 0 ∷ []) $
-        fjoin ! $
-        move ! (5 ∷ []) $
+        nothing ! $ move ! (5 ∷ 0 ∷ []) $ fjoin ! $ move ! (5 ∷ 0 ∷ []) $ fjoin ! $ move ! (5 ∷ 0 ∷ []) $ fjoin ! $ move ! (5 ∷ []) $
         use1 W (‵ (ShrSlice (named 2) κ-2 u16 .own x-directory (sliceVal (b-directory, o-directory) (length v-directory) ∷ [])) ⊛ ‵ (ShrSlice (named 2) κ-2 u16 .own x-directory (sliceVal (b-directory, o-directory) (length v-directory) ∷ []))) (shr-slice-copy 𝓤 H A W (named 2) κ-2 u16 .twice x-directory (sliceVal (b-directory, o-directory) (length v-directory) ∷ [])) $ split ! $
-        move ! (0 ∷ 2 ∷ []) $
-        fjoin ! $
-        move ! (6 ∷ []) $
+        move ! (0 ∷ 2 ∷ []) $ fjoin ! $ move ! (6 ∷ []) $
         use1 W (‵ (ShrSlice (named 1) κ-1 u8 .own x-bytes (sliceVal (b-bytes, o-bytes) (length v-bytes) ∷ [])) ⊛ ‵ (ShrSlice (named 1) κ-1 u8 .own x-bytes (sliceVal (b-bytes, o-bytes) (length v-bytes) ∷ []))) (shr-slice-copy 𝓤 H A W (named 1) κ-1 u8 .twice x-bytes (sliceVal (b-bytes, o-bytes) (length v-bytes) ∷ [])) $ split ! $
-        move ! (0 ∷ 2 ∷ []) $
-        fjoin ! $
+        move ! (0 ∷ 2 ∷ []) $ fjoin ! $
         owned ! R-Place (Is R-Place) (LL.makes T-Place.the-type L-Place.the-plain 𝓤 H A) v-p _ is-p $
         fjoin ! $
         owned ! R-Tally (Is R-Tally) (LL.makes T-Tally.the-type L-Tally.the-plain 𝓤 H A) v-t _ is-t $
-        fjoin ! $
-        nothing ! $
-        move ! (8 ∷ 0 ∷ []) $
-        join ! $
-        move ! (8 ∷ 0 ∷ []) $
-        join ! $
-        move ! (8 ∷ 0 ∷ []) $
-        join ! $
-        move ! (8 ∷ 0 ∷ []) $
-        join ! $
-        move ! (8 ∷ 0 ∷ []) $
-        join ! $
+        fjoin ! $ nothing ! $ move ! (8 ∷ 0 ∷ []) $ join ! $ move ! (8 ∷ 0 ∷ []) $ join ! $ move ! (8 ∷ 0 ∷ []) $ join ! $
+        move ! (8 ∷ 0 ∷ []) $ join ! $ move ! (8 ∷ 0 ∷ []) $ join ! $
         use2 W (raw (C-1 𝓤 H A at-mem run .pre (((κ-1, (κ-2, (κ-3, (κ-4, (κ-5, tt))))), (q-1, (q-2, (q-3, (q-4, (q-5, tt))))), tt, (v-t, (v-p, (x-bytes, (x-directory, (x-keys, (x-corners, (x-trail, tt))))))), ((mach-Tally v-t) ∷ [], (mach-Place v-p ∷ [], (sliceVal (b-bytes, o-bytes) (length v-bytes) ∷ [], (sliceVal (b-directory, o-directory) (length v-directory) ∷ [], (sliceVal (b-keys, o-keys) (length v-keys) ∷ [], (sliceVal (b-corners, o-corners) (length v-corners) ∷ [], (sliceVal (b-trail, o-trail) (length v-trail) ∷ [], tt)))))))), tt))) (qed W ((‵ (flft κ-1 q-1) ⊛ ‵ (flft κ-2 q-2) ⊛ ‵ (flft κ-3 q-3) ⊛ ‵ (flft κ-4 q-4) ⊛ ‵ (flft κ-5 q-5) ⊛ ‵ ftrue) ∷ ‵ (owns (R-Tally ∷ R-Place ∷ ShrSlice (named 0) κ-1 u8 ∷ ShrSlice (named 1) κ-2 u16 ∷ MutSlice (named 2) κ-3 u64 ∷ MutSlice (named 3) κ-4 u32 ∷ MutSlice (named 4) κ-5 u32 ∷ []) (v-t, (v-p, (x-bytes, (x-directory, (x-keys, (x-corners, (x-trail, tt))))))) ((mach-Tally v-t) ∷ [], (mach-Place v-p ∷ [], (sliceVal (b-bytes, o-bytes) (length v-bytes) ∷ [], (sliceVal (b-directory, o-directory) (length v-directory) ∷ [], (sliceVal (b-keys, o-keys) (length v-keys) ∷ [], (sliceVal (b-corners, o-corners) (length v-corners) ∷ [], (sliceVal (b-trail, o-trail) (length v-trail) ∷ [], tt)))))))) ∷ []) ∵ says ! (asks-1 v-t v-p v-bytes v-directory v-keys v-corners v-trail need (room-bytes .0) (room-bytes .1) (room-directory .0) (room-directory .1) (room-keys .0) (room-keys .1) (room-corners .0) (room-corners .1) (room-trail .0) (room-trail .1)) $ frame ! $ done !) $
         calls-at ! fm (C-1 𝓤 H A at-mem run) known-1 (((κ-1, (κ-2, (κ-3, (κ-4, (κ-5, tt))))), (q-1, (q-2, (q-3, (q-4, (q-5, tt))))), tt, (v-t, (v-p, (x-bytes, (x-directory, (x-keys, (x-corners, (x-trail, tt))))))), ((mach-Tally v-t) ∷ [], (mach-Place v-p ∷ [], (sliceVal (b-bytes, o-bytes) (length v-bytes) ∷ [], (sliceVal (b-directory, o-directory) (length v-directory) ∷ [], (sliceVal (b-keys, o-keys) (length v-keys) ∷ [], (sliceVal (b-corners, o-corners) (length v-corners) ∷ [], (sliceVal (b-trail, o-trail) (length v-trail) ∷ [], tt)))))))), tt) (and-then ! (load ! (from ! (stop !)) (look ! 19 refl)) (and-then ! (load ! (from ! (stop !)) (look ! 33 refl)) (and-then ! (load ! (from ! (stop !)) (look ! 31 refl)) (and-then ! (load ! (from ! (stop !)) (look ! 29 refl)) (and-then ! (load ! (from ! (stop !)) (look ! 15 refl)) (and-then ! (load ! (from ! (stop !)) (look ! 11 refl)) (and-then ! (load ! (from ! (stop !)) (look ! 7 refl)) (no-more !)))))))) (λ w1.
         use1 W (later (some (λ (r : Tally). ((‵ (flft κ-1 q-1) ⊛ ‵ (flft κ-2 q-2) ⊛ ‵ (flft κ-3 q-3) ⊛ ‵ (flft κ-4 q-4) ⊛ ‵ (flft κ-5 q-5) ⊛ ‵ ftrue) ⊛ ‵ (R-Tally .own r (w1 ∷ []))) ⊛ raw (ensured 𝓤 H A step-core-f.ended (step-core-f.clauses 𝓤 H A at-mem run) (κ-1, (κ-2, (κ-3, (κ-4, (κ-5, tt))))) (v-t, (v-p, (x-bytes, (x-directory, (x-keys, (x-corners, (x-trail, tt))))))) tt r)))) (id⊢ 𝓤 _) $ await ! tt $ pick ! (λ r1. split ! $ move ! (1 ∷ []) $
         use1 W (some (λ (zs : Unit {0} × (Unit {0} × (Unit {0} × (Unit {0} × (List ℕ × (List ℕ × (List ℕ × (Unit {0})))))))). ‵ (lasts step-core-f.ended (κ-1, (κ-2, (κ-3, (κ-4, (κ-5, tt))))) (v-t, (v-p, (x-bytes, (x-directory, (x-keys, (x-corners, (x-trail, tt))))))) zs) ⊛ raw (fact 𝓤 (Done-1 v-t v-p v-bytes v-directory v-keys v-corners v-trail r1 (zs .1 .1 .1 .1 .0) (zs .1 .1 .1 .1 .1 .0) (zs .1 .1 .1 .1 .1 .1 .0))))) (id⊢ 𝓤 _) $ pick ! (λ zs1. split ! $ move ! (1 ∷ []) $
         heard ! (Done-1 v-t v-p v-bytes v-directory v-keys v-corners v-trail r1 (zs1 .1 .1 .1 .1 .0) (zs1 .1 .1 .1 .1 .1 .0) (zs1 .1 .1 .1 .1 .1 .1 .0)) (λ e1.
-        fsplit ! $
-        drop ! $
-        fsplit ! $
-        drop ! $
-        fsplit ! $
-        drop ! $
-        fsplit ! $
-        drop ! $
-        fsplit ! $
+        fsplit ! $ drop ! $ fsplit ! $ drop ! $ fsplit ! $ drop ! $ fsplit ! $ drop ! $ fsplit ! $
         fsplit ! $ move ! (1 ∷ []) $ feqL ! (λ m1-keys.
-        move ! (1 ∷ []) $
-        fsplit ! $
+        move ! (1 ∷ []) $ fsplit ! $
         fsplit ! $ move ! (1 ∷ []) $ feqL ! (λ m1-corners.
-        move ! (1 ∷ []) $
-        fsplit ! $
+        move ! (1 ∷ []) $ fsplit ! $
         fsplit ! $ move ! (1 ∷ []) $ feqL ! (λ m1-trail.
-        move ! (1 ∷ []) $
-        drop ! $
-        move ! (3 ∷ []) $
-        split ! $
-        split ! $
-        move ! (1 ∷ []) $
-        split ! $
-        move ! (1 ∷ []) $
-        split ! $
-        move ! (1 ∷ []) $
-        split ! $
-        move ! (1 ∷ []) $
-        split ! $
-        move ! (1 ∷ []) $
-        drop ! $
-        move ! (5 ∷ []) $
+        move ! (1 ∷ []) $ drop ! $ move ! (3 ∷ []) $ split ! $ split ! $ move ! (1 ∷ []) $ split ! $ move ! (1 ∷ []) $ split ! $
+        move ! (1 ∷ []) $ split ! $ move ! (1 ∷ []) $ split ! $ move ! (1 ∷ []) $ drop ! $ move ! (5 ∷ []) $
         peeks ! R-Tally (Is R-Tally) (shows 𝓤 H A R-Tally) r1 (w1 ∷ []) (λ isr1. drop ! $
         land ! (from ! (stop !)) (init ! 28 refl (typed-Tally r1 _ isr1)) $
         rewrite ! 28 (λ (u : Val). ‵ (fat fullShare L-Tally.mir l8 0 u)) (ap only (LL.tells T-Tally.the-type L-Tally.the-laws r1 _ isr1)) refl $
@@ -266,67 +194,15 @@ module _ {M : Type 1} (𝓤 : URA M) (H : Heap 𝓤) (A : Atoms 𝓤) (W : Given
         move ! (11 ∷ 0 ∷ 12 ∷ 13 ∷ 14 ∷ []) $
         closes ! tt R-Tally r1 ((mach-Tally r1) ∷ []) b-t o-t $
         returns ! (look ! 43 refl) $ forget ! 43 refl $ forget ! 41 refl $ forget ! 39 refl $ forget ! 37 refl $ forget ! 35 refl $ forget ! 33 refl $ forget ! 31 refl $ forget ! 29 refl $ forget ! 27 refl $ forget ! 25 refl $ forget ! 23 refl $ forget ! 21 refl $ forget ! 19 refl $ forget ! 17 refl $ forget ! 15 refl $ forget ! 13 refl $
-        move ! (43 ∷ 44 ∷ []) $
-        free1 ! $
-        move ! (41 ∷ 42 ∷ []) $
-        free1 ! $
-        move ! (39 ∷ 40 ∷ []) $
-        free1 ! $
-        move ! (37 ∷ 38 ∷ []) $
-        free1 ! $
-        move ! (35 ∷ 36 ∷ []) $
-        free1 ! $
-        move ! (33 ∷ 34 ∷ []) $
-        free1 ! $
-        move ! (31 ∷ 32 ∷ []) $
-        free1 ! $
-        move ! (29 ∷ 30 ∷ []) $
-        free1 ! $
-        move ! (27 ∷ 28 ∷ []) $
-        free1 ! $
-        move ! (25 ∷ 26 ∷ []) $
-        free1 ! $
-        move ! (23 ∷ 24 ∷ []) $
-        free1 ! $
-        move ! (21 ∷ 22 ∷ []) $
-        free1 ! $
-        move ! (19 ∷ 20 ∷ []) $
-        free1 ! $
-        move ! (17 ∷ 18 ∷ []) $
-        free1 ! $
-        move ! (15 ∷ 16 ∷ []) $
-        free1 ! $
-        move ! (13 ∷ 14 ∷ []) $
-        free1 ! $
-        free0 ! $
+        move ! (43 ∷ 44 ∷ []) $ free1 ! $ move ! (41 ∷ 42 ∷ []) $ free1 ! $ move ! (39 ∷ 40 ∷ []) $ free1 ! $ move ! (37 ∷ 38 ∷ []) $
+        free1 ! $ move ! (35 ∷ 36 ∷ []) $ free1 ! $ move ! (33 ∷ 34 ∷ []) $ free1 ! $ move ! (31 ∷ 32 ∷ []) $ free1 ! $
+        move ! (29 ∷ 30 ∷ []) $ free1 ! $ move ! (27 ∷ 28 ∷ []) $ free1 ! $ move ! (25 ∷ 26 ∷ []) $ free1 ! $ move ! (23 ∷ 24 ∷ []) $
+        free1 ! $ move ! (21 ∷ 22 ∷ []) $ free1 ! $ move ! (19 ∷ 20 ∷ []) $ free1 ! $ move ! (17 ∷ 18 ∷ []) $ free1 ! $
+        move ! (15 ∷ 16 ∷ []) $ free1 ! $ move ! (13 ∷ 14 ∷ []) $ free1 ! $ free0 ! $
         suffices ! _ (ends-at 𝓤 H A step-f.ended stayed (step-f.clauses 𝓤 H A at-mem run) W (((κ-0, (κ-1, (κ-2, (κ-3, (κ-4, (κ-5, tt)))))), (q-0, (q-1, (q-2, (q-3, (q-4, (q-5, tt)))))), tt, a, vals), tt) vunit tt (r1, (tt, (tt, (tt, ((zs1 .1 .1 .1 .1 .0), ((zs1 .1 .1 .1 .1 .1 .0), ((zs1 .1 .1 .1 .1 .1 .1 .0), tt))))))) (tt, (tt, (tt, (tt, (m1-keys, (m1-corners, (m1-trail, tt)))))))) $ says ! (says-step v-t v-p v-bytes v-directory v-keys v-corners v-trail r1 (zs1 .1 .1 .1 .1 .0) (zs1 .1 .1 .1 .1 .1 .0) (zs1 .1 .1 .1 .1 .1 .1 .0) need (room-bytes .0) (room-bytes .1) (room-directory .0) (room-directory .1) (room-keys .0) (room-keys .1) (room-corners .0) (room-corners .1) (room-trail .0) (room-trail .1) e1 m1-keys m1-corners m1-trail) $
-        nothing ! $
-        move ! (4 ∷ 0 ∷ []) $
-        join ! $
-        move ! (4 ∷ 0 ∷ []) $
-        join ! $
-        move ! (4 ∷ 0 ∷ []) $
-        join ! $
-        move ! (4 ∷ 0 ∷ []) $
-        join ! $
-        move ! (4 ∷ 0 ∷ []) $
-        join ! $
-        move ! (3 ∷ 0 ∷ []) $
-        join ! $
-        frame ! $
-        nothing ! $
-        move ! (3 ∷ 0 ∷ []) $
-        fjoin ! $
-        move ! (3 ∷ 0 ∷ []) $
-        fjoin ! $
-        move ! (3 ∷ 0 ∷ []) $
-        fjoin ! $
-        nothing ! $
-        fjoin ! $
-        nothing ! $
-        fjoin ! $
-        nothing ! $
-        fjoin ! $
+        nothing ! $ move ! (4 ∷ 0 ∷ []) $ join ! $ move ! (4 ∷ 0 ∷ []) $ join ! $ move ! (4 ∷ 0 ∷ []) $ join ! $ move ! (4 ∷ 0 ∷ []) $
+        join ! $ move ! (4 ∷ 0 ∷ []) $ join ! $ move ! (3 ∷ 0 ∷ []) $ join ! $ frame ! $ nothing ! $ move ! (3 ∷ 0 ∷ []) $ fjoin ! $
+        move ! (3 ∷ 0 ∷ []) $ fjoin ! $ move ! (3 ∷ 0 ∷ []) $ fjoin ! $ nothing ! $ fjoin ! $ nothing ! $ fjoin ! $ nothing ! $ fjoin ! $
         move ! (1 ∷ 2 ∷ []) $
         feqI ! (List Val) (vptr b-t o-t ∷ []) (vptr b-t o-t ∷ []) refl $ fjoin3 ! $
         fjoin ! $

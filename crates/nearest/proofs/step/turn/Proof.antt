@@ -43,7 +43,6 @@ use denote.Triple.Clauses.{ensured, lasts}
 use denote.Triple.Table.{entered, cited}
 use denote.Triple.Walked.{says, needs, Stays, stay-dropped, gave-slice, walkOf, goes-dropped, goes-gave-slice, Walks, ends-at, walked, walk-meets}
 use denote.Exit.{yes}
-use Rattle.search.specs.Near as spec
 use Rattle.nearest.specs.Places.{placeOf, Named}
 use Rattle.nearest.specs.Step.{Goes, Stepped}
 use Rattle.nearest.specs.declared.step.Tally.{Tally}
@@ -150,34 +149,9 @@ module _ {M : Type 1} (𝓤 : URA M) (H : Heap 𝓤) (A : Atoms 𝓤) (W : Given
         pass1 ! (init ! 20 refl (tt, (tt, (record { fits = room-corners .0 }, tt)))) $
         pass1 ! (init ! 18 refl (tt, (tt, (record { fits = room-trail .0 }, tt)))) $
         pass0 ! $
-        move ! (34 ∷ []) $
-        split ! $
-        move ! (1 ∷ []) $
-        split ! $
-        move ! (1 ∷ []) $
-        split ! $
-        move ! (1 ∷ []) $
-        split ! $
-        move ! (1 ∷ []) $
-        split ! $
-        move ! (1 ∷ []) $
-        drop ! $
-        move ! (39 ∷ []) $
-        fsplit ! $
-        drop ! $
-        fsplit ! $
-        drop ! $
-        fsplit ! $
-        move ! (1 ∷ []) $
-        fsplit ! $
-        move ! (1 ∷ []) $
-        fsplit ! $
-        move ! (1 ∷ []) $
-        fsplit ! $
-        move ! (1 ∷ []) $
-        fsplit ! $
-        move ! (1 ∷ []) $
-        drop ! $
+        move ! (34 ∷ []) $ split ! $ move ! (1 ∷ []) $ split ! $ move ! (1 ∷ []) $ split ! $ move ! (1 ∷ []) $ split ! $ move ! (1 ∷ []) $
+        split ! $ move ! (1 ∷ []) $ drop ! $ move ! (39 ∷ []) $ fsplit ! $ drop ! $ fsplit ! $ drop ! $ fsplit ! $ move ! (1 ∷ []) $
+        fsplit ! $ move ! (1 ∷ []) $ fsplit ! $ move ! (1 ∷ []) $ fsplit ! $ move ! (1 ∷ []) $ fsplit ! $ move ! (1 ∷ []) $ drop ! $
         assigns ! (of-opd ! (load ! (from ! (stop !)) (look ! 40 refl))) (from ! (stop !)) (init ! 26 refl (typed-Tally v-t _ is-t)) $
         assigns ! (addr ! (from ! (stop !))) (from ! (stop !)) (init ! 22 refl (tt, tt)) $
         assigns ! (addr ! (from ! (fld ! refl (hop ! (look-in ! 32 (sub ! 0 refl (whole !))) (stop !))))) (from ! (stop !)) (init ! 20 refl (tt, tt)) $
@@ -191,79 +165,28 @@ module _ {M : Type 1} (𝓤 : URA M) (H : Heap 𝓤) (A : Atoms 𝓤) (W : Given
         owned ! R-Tally (Is R-Tally) (LL.makes T-Tally.the-type L-Tally.the-plain 𝓤 H A) v-t _ is-t $ move ! (1 ∷ 0 ∷ []) $
         lft-new ! tt (λ ν1-0. move ! (1 ∷ 2 ∷ []) $
         use2 W (later (some (λ (δ : GName). ‵ (MutRef (named 0) (ν1-0 ∷ []) R-Tally .own (record { ptr = (l8, 0); name = δ; now = v-t }) (vptr l8 0 ∷ [])) ⊛ ‵ (flent (ν1-0 ∷ []) (Body (mem R-Tally) l8 0 δ))))) (lends-local 𝓤 H A W R-Tally (named 0) (ν1-0 ∷ []) v-t (mach-Tally v-t ∷ []) l8 0) $ await ! tt $ pick ! (λ δ1-0. split ! $
-        nothing ! $
-        move ! (4 ∷ 0 ∷ []) $
-        fjoin ! $
-        move ! (4 ∷ 0 ∷ []) $
-        fjoin ! $
-        move ! (4 ∷ 0 ∷ []) $
-        fjoin ! $
-        move ! (4 ∷ []) $
+        nothing ! $ move ! (4 ∷ 0 ∷ []) $ fjoin ! $ move ! (4 ∷ 0 ∷ []) $ fjoin ! $ move ! (4 ∷ 0 ∷ []) $ fjoin ! $ move ! (4 ∷ []) $
         use1 W (‵ (ShrSlice (named 1) κ-1 u16 .own x-directory (sliceVal (b-directory, o-directory) (length v-directory) ∷ [])) ⊛ ‵ (ShrSlice (named 1) κ-1 u16 .own x-directory (sliceVal (b-directory, o-directory) (length v-directory) ∷ []))) (shr-slice-copy 𝓤 H A W (named 1) κ-1 u16 .twice x-directory (sliceVal (b-directory, o-directory) (length v-directory) ∷ [])) $ split ! $
-        move ! (0 ∷ 2 ∷ []) $
-        fjoin ! $
-        move ! (5 ∷ []) $
+        move ! (0 ∷ 2 ∷ []) $ fjoin ! $ move ! (5 ∷ []) $
         use1 W (‵ (ShrSlice (named 0) κ-0 u8 .own x-bytes (sliceVal (b-bytes, o-bytes) (length v-bytes) ∷ [])) ⊛ ‵ (ShrSlice (named 0) κ-0 u8 .own x-bytes (sliceVal (b-bytes, o-bytes) (length v-bytes) ∷ []))) (shr-slice-copy 𝓤 H A W (named 0) κ-0 u8 .twice x-bytes (sliceVal (b-bytes, o-bytes) (length v-bytes) ∷ [])) $ split ! $
-        move ! (0 ∷ 2 ∷ []) $
-        fjoin ! $
+        move ! (0 ∷ 2 ∷ []) $ fjoin ! $
         owned ! R-Place (Is R-Place) (LL.makes T-Place.the-type L-Place.the-plain 𝓤 H A) v-p _ is-p $
-        fjoin ! $
-        move ! (3 ∷ 0 ∷ []) $
-        fjoin ! $
-        nothing ! $
-        move ! (6 ∷ 0 ∷ []) $
-        join ! $
-        move ! (6 ∷ 0 ∷ []) $
-        join ! $
-        move ! (6 ∷ 0 ∷ []) $
-        join ! $
-        move ! (6 ∷ 0 ∷ []) $
-        join ! $
-        move ! (6 ∷ 0 ∷ []) $
-        join ! $
-        move ! (5 ∷ 0 ∷ []) $
-        join ! $
+        fjoin ! $ move ! (3 ∷ 0 ∷ []) $ fjoin ! $ nothing ! $ move ! (6 ∷ 0 ∷ []) $ join ! $ move ! (6 ∷ 0 ∷ []) $ join ! $
+        move ! (6 ∷ 0 ∷ []) $ join ! $ move ! (6 ∷ 0 ∷ []) $ join ! $ move ! (6 ∷ 0 ∷ []) $ join ! $ move ! (5 ∷ 0 ∷ []) $ join ! $
         use2 W (raw (C-1 𝓤 H A at-mem run .pre ((((ν1-0 ∷ []), (κ-0, (κ-1, (κ-2, (κ-3, (κ-4, tt)))))), (fullShare, (q-0, (q-1, (q-2, (q-3, (q-4, tt)))))), tt, ((record { ptr = (l8, 0); name = δ1-0; now = v-t }), (v-p, (x-bytes, (x-directory, (x-keys, (x-corners, (x-trail, tt))))))), (vptr l8 0 ∷ [], (mach-Place v-p ∷ [], (sliceVal (b-bytes, o-bytes) (length v-bytes) ∷ [], (sliceVal (b-directory, o-directory) (length v-directory) ∷ [], (sliceVal (b-keys, o-keys) (length v-keys) ∷ [], (sliceVal (b-corners, o-corners) (length v-corners) ∷ [], (sliceVal (b-trail, o-trail) (length v-trail) ∷ [], tt)))))))), tt))) (qed W ((‵ (flft (ν1-0 ∷ []) fullShare) ⊛ ‵ (flft κ-0 q-0) ⊛ ‵ (flft κ-1 q-1) ⊛ ‵ (flft κ-2 q-2) ⊛ ‵ (flft κ-3 q-3) ⊛ ‵ (flft κ-4 q-4) ⊛ ‵ ftrue) ∷ ‵ (owns (MutRef (named 0) (ν1-0 ∷ []) R-Tally ∷ R-Place ∷ ShrSlice (named 1) κ-0 u8 ∷ ShrSlice (named 2) κ-1 u16 ∷ MutSlice (named 3) κ-2 u64 ∷ MutSlice (named 4) κ-3 u32 ∷ MutSlice (named 5) κ-4 u32 ∷ []) ((record { ptr = (l8, 0); name = δ1-0; now = v-t }), (v-p, (x-bytes, (x-directory, (x-keys, (x-corners, (x-trail, tt))))))) (vptr l8 0 ∷ [], (mach-Place v-p ∷ [], (sliceVal (b-bytes, o-bytes) (length v-bytes) ∷ [], (sliceVal (b-directory, o-directory) (length v-directory) ∷ [], (sliceVal (b-keys, o-keys) (length v-keys) ∷ [], (sliceVal (b-corners, o-corners) (length v-corners) ∷ [], (sliceVal (b-trail, o-trail) (length v-trail) ∷ [], tt)))))))) ∷ []) ∵ says ! (asks-1 v-t v-p v-bytes v-directory v-keys v-corners v-trail need (room-bytes .0) (room-bytes .1) (room-directory .0) (room-directory .1) (room-keys .0) (room-keys .1) (room-corners .0) (room-corners .1) (room-trail .0) (room-trail .1)) $ frame ! $ done !) $
         calls-at ! fm (C-1 𝓤 H A at-mem run) known-1 ((((ν1-0 ∷ []), (κ-0, (κ-1, (κ-2, (κ-3, (κ-4, tt)))))), (fullShare, (q-0, (q-1, (q-2, (q-3, (q-4, tt)))))), tt, ((record { ptr = (l8, 0); name = δ1-0; now = v-t }), (v-p, (x-bytes, (x-directory, (x-keys, (x-corners, (x-trail, tt))))))), (vptr l8 0 ∷ [], (mach-Place v-p ∷ [], (sliceVal (b-bytes, o-bytes) (length v-bytes) ∷ [], (sliceVal (b-directory, o-directory) (length v-directory) ∷ [], (sliceVal (b-keys, o-keys) (length v-keys) ∷ [], (sliceVal (b-corners, o-corners) (length v-corners) ∷ [], (sliceVal (b-trail, o-trail) (length v-trail) ∷ [], tt)))))))), tt) (and-then ! (load ! (from ! (stop !)) (look ! 16 refl)) (and-then ! (load ! (from ! (stop !)) (look ! 31 refl)) (and-then ! (load ! (from ! (stop !)) (look ! 29 refl)) (and-then ! (load ! (from ! (stop !)) (look ! 27 refl)) (and-then ! (load ! (from ! (stop !)) (look ! 12 refl)) (and-then ! (load ! (from ! (stop !)) (look ! 8 refl)) (and-then ! (load ! (from ! (stop !)) (look ! 4 refl)) (no-more !)))))))) (λ w1.
         use1 W (later (some (λ (r : Unit {0}). ((‵ (flft (ν1-0 ∷ []) fullShare) ⊛ ‵ (flft κ-0 q-0) ⊛ ‵ (flft κ-1 q-1) ⊛ ‵ (flft κ-2 q-2) ⊛ ‵ (flft κ-3 q-3) ⊛ ‵ (flft κ-4 q-4) ⊛ ‵ ftrue) ⊛ ‵ (Nothing .own r (w1 ∷ []))) ⊛ raw (ensured 𝓤 H A step-f.ended (step-f.clauses 𝓤 H A at-mem run) ((ν1-0 ∷ []), (κ-0, (κ-1, (κ-2, (κ-3, (κ-4, tt)))))) ((record { ptr = (l8, 0); name = δ1-0; now = v-t }), (v-p, (x-bytes, (x-directory, (x-keys, (x-corners, (x-trail, tt))))))) tt r)))) (id⊢ 𝓤 _) $ await ! tt $ pick ! (λ r1. split ! $ move ! (1 ∷ []) $
         use1 W (some (λ (zs : Tally × (Unit {0} × (Unit {0} × (Unit {0} × (List ℕ × (List ℕ × (List ℕ × (Unit {0})))))))). ‵ (lasts step-f.ended ((ν1-0 ∷ []), (κ-0, (κ-1, (κ-2, (κ-3, (κ-4, tt)))))) ((record { ptr = (l8, 0); name = δ1-0; now = v-t }), (v-p, (x-bytes, (x-directory, (x-keys, (x-corners, (x-trail, tt))))))) zs) ⊛ raw (fact 𝓤 (Done-1 v-t v-p v-bytes v-directory v-keys v-corners v-trail r1 (zs .0) (zs .1 .1 .1 .1 .0) (zs .1 .1 .1 .1 .1 .0) (zs .1 .1 .1 .1 .1 .1 .0))))) (id⊢ 𝓤 _) $ pick ! (λ zs1. split ! $ move ! (1 ∷ []) $
         heard ! (Done-1 v-t v-p v-bytes v-directory v-keys v-corners v-trail r1 (zs1 .0) (zs1 .1 .1 .1 .1 .0) (zs1 .1 .1 .1 .1 .1 .0) (zs1 .1 .1 .1 .1 .1 .1 .0)) (λ e1.
-        fsplit ! $
-        move ! (1 ∷ []) $
-        fsplit ! $
-        drop ! $
-        fsplit ! $
-        drop ! $
-        fsplit ! $
-        drop ! $
-        fsplit ! $
+        fsplit ! $ move ! (1 ∷ []) $ fsplit ! $ drop ! $ fsplit ! $ drop ! $ fsplit ! $ drop ! $ fsplit ! $
         fsplit ! $ move ! (1 ∷ []) $ feqL ! (λ m1-keys.
-        move ! (1 ∷ []) $
-        fsplit ! $
+        move ! (1 ∷ []) $ fsplit ! $
         fsplit ! $ move ! (1 ∷ []) $ feqL ! (λ m1-corners.
-        move ! (1 ∷ []) $
-        fsplit ! $
+        move ! (1 ∷ []) $ fsplit ! $
         fsplit ! $ move ! (1 ∷ []) $ feqL ! (λ m1-trail.
-        move ! (1 ∷ []) $
-        drop ! $
-        move ! (4 ∷ []) $
-        split ! $
-        split ! $
-        move ! (1 ∷ []) $
-        split ! $
-        move ! (1 ∷ []) $
-        split ! $
-        move ! (1 ∷ []) $
-        split ! $
-        move ! (1 ∷ []) $
-        split ! $
-        move ! (1 ∷ []) $
-        split ! $
-        move ! (1 ∷ []) $
-        drop ! $
-        move ! (5 ∷ []) $
-        lft-end ! tt $
-        move ! (0 ∷ 13 ∷ 10 ∷ []) $
+        move ! (1 ∷ []) $ drop ! $ move ! (4 ∷ []) $ split ! $ split ! $ move ! (1 ∷ []) $ split ! $ move ! (1 ∷ []) $ split ! $
+        move ! (1 ∷ []) $ split ! $ move ! (1 ∷ []) $ split ! $ move ! (1 ∷ []) $ split ! $ move ! (1 ∷ []) $ drop ! $ move ! (5 ∷ []) $
+        lft-end ! tt $ move ! (0 ∷ 13 ∷ 10 ∷ []) $
         use3 W (later (‵ (mem R-Tally .lies (zs1 .0) l8 0))) (ref-back 𝓤 H A W R-Tally (ν1-0 ∷ []) δ1-0 (zs1 .0) l8 0) $ await ! tt $
         lies-out ! R-Tally (zs1 .0) l8 0 (λ us1-0. spelt ! R-Tally (Is R-Tally) (shows 𝓤 H A R-Tally) (LL.vals T-Tally.the-type L-Tally.the-laws) (LL.tells T-Tally.the-type L-Tally.the-laws) fullShare (zs1 .0) us1-0 l8 0 $
         use1 W (‵ (fat fullShare L-Tally.mir l8 0 (mach-Tally (zs1 .0)))) (W .laws .raw-at fullShare L-Tally.mir l8 0 (mach-Tally (zs1 .0))) $ move ! (1 ∷ []) $
@@ -273,69 +196,15 @@ module _ {M : Type 1} (𝓤 : URA M) (H : Heap 𝓤) (A : Atoms 𝓤) (W : Given
         land ! (from ! (stop !)) (init ! 25 refl (subst (λ (y : Val). Holds (hasTy tyUnit y) × WT y) (sym (ap only ew1)) (tt, tt))) $
         assigns ! (of-opd ! (load ! (from ! (stop !)) (look ! 0 refl))) (from ! (stop !)) (init ! 42 refl (typed-Tally (zs1 .0) _ is1-0)) $
         returns ! (look ! 42 refl) $ forget ! 42 refl $ forget ! 40 refl $ forget ! 38 refl $ forget ! 36 refl $ forget ! 34 refl $ forget ! 32 refl $ forget ! 30 refl $ forget ! 28 refl $ forget ! 0 refl $ forget ! 25 refl $ forget ! 23 refl $ forget ! 21 refl $ forget ! 19 refl $ forget ! 17 refl $ forget ! 15 refl $ forget ! 13 refl $ forget ! 11 refl $
-        move ! (42 ∷ 43 ∷ []) $
-        free1 ! $
-        move ! (40 ∷ 41 ∷ []) $
-        free1 ! $
-        move ! (38 ∷ 39 ∷ []) $
-        free1 ! $
-        move ! (36 ∷ 37 ∷ []) $
-        free1 ! $
-        move ! (34 ∷ 35 ∷ []) $
-        free1 ! $
-        move ! (32 ∷ 33 ∷ []) $
-        free1 ! $
-        move ! (30 ∷ 31 ∷ []) $
-        free1 ! $
-        move ! (28 ∷ 29 ∷ []) $
-        free1 ! $
-        move ! (0 ∷ 27 ∷ []) $
-        free1 ! $
-        move ! (24 ∷ 25 ∷ []) $
-        free1 ! $
-        move ! (22 ∷ 23 ∷ []) $
-        free1 ! $
-        move ! (20 ∷ 21 ∷ []) $
-        free1 ! $
-        move ! (18 ∷ 19 ∷ []) $
-        free1 ! $
-        move ! (16 ∷ 17 ∷ []) $
-        free1 ! $
-        move ! (14 ∷ 15 ∷ []) $
-        free1 ! $
-        move ! (12 ∷ 13 ∷ []) $
-        free1 ! $
-        move ! (10 ∷ 11 ∷ []) $
-        free1 ! $
-        free0 ! $
+        move ! (42 ∷ 43 ∷ []) $ free1 ! $ move ! (40 ∷ 41 ∷ []) $ free1 ! $ move ! (38 ∷ 39 ∷ []) $ free1 ! $ move ! (36 ∷ 37 ∷ []) $
+        free1 ! $ move ! (34 ∷ 35 ∷ []) $ free1 ! $ move ! (32 ∷ 33 ∷ []) $ free1 ! $ move ! (30 ∷ 31 ∷ []) $ free1 ! $
+        move ! (28 ∷ 29 ∷ []) $ free1 ! $ move ! (0 ∷ 27 ∷ []) $ free1 ! $ move ! (24 ∷ 25 ∷ []) $ free1 ! $ move ! (22 ∷ 23 ∷ []) $
+        free1 ! $ move ! (20 ∷ 21 ∷ []) $ free1 ! $ move ! (18 ∷ 19 ∷ []) $ free1 ! $ move ! (16 ∷ 17 ∷ []) $ free1 ! $
+        move ! (14 ∷ 15 ∷ []) $ free1 ! $ move ! (12 ∷ 13 ∷ []) $ free1 ! $ move ! (10 ∷ 11 ∷ []) $ free1 ! $ free0 ! $
         suffices ! _ (ends-at 𝓤 H A turn-f.ended stayed (turn-f.clauses 𝓤 H A at-mem run) W (((κ-0, (κ-1, (κ-2, (κ-3, (κ-4, tt))))), (q-0, (q-1, (q-2, (q-3, (q-4, tt))))), tt, a, vals), tt) ((mach-Tally (zs1 .0))) (zs1 .0) (tt, (tt, (tt, (tt, ((zs1 .1 .1 .1 .1 .0), ((zs1 .1 .1 .1 .1 .1 .0), ((zs1 .1 .1 .1 .1 .1 .1 .0), tt))))))) (tt, (tt, (tt, (tt, (m1-keys, (m1-corners, (m1-trail, tt)))))))) $ says ! (says-turn v-t v-p v-bytes v-directory v-keys v-corners v-trail r1 (zs1 .0) (zs1 .1 .1 .1 .1 .0) (zs1 .1 .1 .1 .1 .1 .0) (zs1 .1 .1 .1 .1 .1 .1 .0) need (room-bytes .0) (room-bytes .1) (room-directory .0) (room-directory .1) (room-keys .0) (room-keys .1) (room-corners .0) (room-corners .1) (room-trail .0) (room-trail .1) e1 m1-keys m1-corners m1-trail) $
-        nothing ! $
-        move ! (1 ∷ 0 ∷ []) $
-        join ! $
-        move ! (1 ∷ 0 ∷ []) $
-        join ! $
-        move ! (1 ∷ 0 ∷ []) $
-        join ! $
-        move ! (1 ∷ 0 ∷ []) $
-        join ! $
-        move ! (1 ∷ 0 ∷ []) $
-        join ! $
-        frame ! $
-        nothing ! $
-        move ! (1 ∷ 0 ∷ []) $
-        fjoin ! $
-        move ! (1 ∷ 0 ∷ []) $
-        fjoin ! $
-        move ! (1 ∷ 0 ∷ []) $
-        fjoin ! $
-        nothing ! $
-        fjoin ! $
-        nothing ! $
-        fjoin ! $
-        nothing ! $
-        fjoin ! $
-        nothing ! $
-        fjoin ! $
+        nothing ! $ move ! (1 ∷ 0 ∷ []) $ join ! $ move ! (1 ∷ 0 ∷ []) $ join ! $ move ! (1 ∷ 0 ∷ []) $ join ! $ move ! (1 ∷ 0 ∷ []) $
+        join ! $ move ! (1 ∷ 0 ∷ []) $ join ! $ frame ! $ nothing ! $ move ! (1 ∷ 0 ∷ []) $ fjoin ! $ move ! (1 ∷ 0 ∷ []) $ fjoin ! $
+        move ! (1 ∷ 0 ∷ []) $ fjoin ! $ nothing ! $ fjoin ! $ nothing ! $ fjoin ! $ nothing ! $ fjoin ! $ nothing ! $ fjoin ! $
         owned ! R-Tally (Is R-Tally) (LL.makes T-Tally.the-type L-Tally.the-plain 𝓤 H A) (zs1 .0) _ is1-0 $ move ! (1 ∷ 0 ∷ []) $
         keep ! (0 ∷ 1 ∷ []) $ done !)))))))))))))))))))))))))))))
 
