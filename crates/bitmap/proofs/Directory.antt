@@ -1,6 +1,7 @@
 -- The directory by its entries, and what its making and its check keep, byte by byte.
 use Prim.Native.Nat.{ℕ, zero, suc, _+_, _*_, _/_, _%_, _≤_, _<_}
 use mathlib.Core.Bool.{Bool, true, false, _&&_}
+use mathlib.Core.Logic.{_↔_}
 use mathlib.Core.Path.{_≡_, refl, sym, ap, _∙_}
 use mathlib.Core.List.{List, [], _∷_, map}
 use native.Mathlib.Omega.{arith}
@@ -15,7 +16,7 @@ use Rattle.bitmap.specs.Bits.{onesBefore}
 use Rattle.bitmap.specs.Directory.{blockBytes, blockBits, blocks, directoryOf, alike}
 
 -- n numbers are n
-length-from : (a n : ℕ) → length (from a n) ≡ n
+pub length-from : (a n : ℕ) → length (from a n) ≡ n
 unfolding from
 length-from a zero = refl
 length-from a (suc n) = rw (length-from (suc a) n)
@@ -66,6 +67,14 @@ alike-false xs ys n = go (alike xs ys) refl
     go : (t : Bool) → alike xs ys ≡ t → false ≡ t
     go true e = absurd (n (alike-true xs ys e))
     go false e = refl
+
+-- it is taken exactly where it is as long as it must be and every entry is right
+pub directory-exactly : (bytes d : List ℕ)
+    → (alike d (directoryOf bytes) ≡ true) ↔ ((length d ≡ blocks (length bytes)) × ((k : ℕ) → k < blocks (length bytes) → getD d k 0 ≡ onesBefore bytes (blockBits * k)))
+directory-exactly bytes d = (
+  λ e. let is = alike-true d (directoryOf bytes) e in (ap length is ∙ length-directory bytes, λ k h. ap (λ (l : List ℕ). getD l k 0) is ∙ directory-at bytes k h),
+  λ w. ap (λ (l : List ℕ). alike d l) (sym (directory-is bytes d (w .0) (w .1))) ∙ alike-same d,
+)
 
 -- the entry of a byte's block
 pub block-entry : (bytes d : List ℕ) (i : ℕ) → d ≡ directoryOf bytes → i < length bytes → getD d (i / blockBytes) 0 ≡ onesBefore bytes (8 * (i / blockBytes * blockBytes))
