@@ -8,6 +8,7 @@ use lib.ListN.{length, getD}
 use lib.Dec.{leb, eqb}
 use borrow.Author.Tests.{le-leb, leb-true, eqb-true, eq-eqb}
 use Rattle.refusal.specs.Answer.{Served, Refused, _unless_, _then_}
+use Rattle.refusal.proofs.Tests.{both}
 use Rattle.measure.specs.Measure.{isDigit, isComma, isHalf, measure, hasForm, decimal, valueOf, readOf}
 use Rattle.measure.specs.Parts.{digitOf, halfOf}
 
@@ -73,11 +74,6 @@ half-test b = by-tests (eqb b 48) (eqb b 53)
     by-tests true t = refl
     by-tests false true = refl
     by-tests false false = refl
-
--- two tests hold, and so each
-pub both : (s t : Bool) → s && t ≡ true → (s ≡ true) × (t ≡ true)
-both true t e = (refl, e)
-both false t e = let z : _≡_ {A = ℕ} 0 1 = cc in absurd (omega arith)
 
 -- a text that has a form has a byte for each place
 pub has-length : (form : List (ℕ → Bool)) (t : List ℕ) → hasForm form t ≡ true → length t ≡ length form

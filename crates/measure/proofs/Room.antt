@@ -9,9 +9,9 @@ use lib.ListN.{length, replicate, take, drop, set}
 use lib.Dec.{leb}
 use borrow.Author.Tests.{le-leb, leb-true}
 use Rattle.refusal.specs.Answer.{Answer, Served, Refused, _unless_, leftIn}
+use Rattle.refusal.proofs.Tests.{both}
 use Rattle.measure.specs.Measure.{written, writtenMarked}
 use Rattle.measure.specs.Parts.{markOf}
-use Rattle.measure.proofs.Places.{both}
 
 -- a number within its limit and a text within its room
 pub within : (a most k room : ℕ) → a ≤ most → k ≤ room → (13 unless (leb a most && leb k room)) ≡ Served true
