@@ -73,6 +73,9 @@ fn read_examples() {
     show(b"012,5 ");
     show(b"012,500");
     show(b"-000,5");
+    show(b" 12,5");
+    show(b"0125");
+    show(b"1,250");
 }
 
 fn read_marked_examples() {
