@@ -21,16 +21,10 @@ use Rattle.board.specs.Valid.{Valid}
 use Rattle.board.specs.Table.{HeightServed, EndBefore, AllZero, SoundBefore, FirstAt, BytesOver, UnusedOne}
 use Rattle.board.proofs.Valid.{both, sound-group, group-sound, check-fault, check-sized, just-valid, valid-sized}
 use Rattle.board.proofs.Levels.{groups-pos}
+use Rattle.board.proofs.Tests.{height-test}
 use Rattle.board.proofs.Refused.{past-test, by-test}
 
 -- ---- the tests in the table's words
-
--- the height
-height-served : (h : ℕ) → leb 1 h && leb h maxHeight ≡ true → HeightServed h
-height-served h e = let t = both (leb 1 h) (leb h maxHeight) e in (leb-true 1 h (t .0), leb-true h maxHeight (t .1))
-
-served-height : (h : ℕ) → HeightServed h → leb 1 h && leb h maxHeight ≡ true
-served-height h t = rw (le-leb 1 h (t .0), le-leb h maxHeight (t .1))
 
 -- no group before g has a fault
 sound-before : (bytes : List ℕ) (g : ℕ) → ((i : ℕ) → i < g → faulty bytes i ≡ false) → SoundBefore bytes g
@@ -139,11 +133,11 @@ module _ (h : ℕ) (bytes : List ℕ) where
 
   past-height : (k : ℕ) → eqb 1 k ≡ false → checkOf h bytes ≡ Refused k → HeightServed h
   unfolding checkOf
-  past-height k d e = height-served h (past-test 1 k (leb 1 h && leb h maxHeight) _ d e .0)
+  past-height k d e = height-test h .0 (past-test 1 k (leb 1 h && leb h maxHeight) _ d e .0)
 
   -- 1: the height is not 1 to 10
   pub check-1 : (checkOf h bytes ≡ Refused 1) ↔ (HeightServed h → ⊥)
-  check-1 = (refused, λ n. test-cases (leb 1 h && leb h maxHeight) (λ e. absurd (n (height-served h e))) (λ e. unfold checkOf in rw e))
+  check-1 = (refused, λ n. test-cases (leb 1 h && leb h maxHeight) (λ e. absurd (n (height-test h .0 e))) (λ e. unfold checkOf in rw e))
     where
       refused : checkOf h bytes ≡ Refused 1 → HeightServed h → ⊥
       refused e t =

@@ -19,14 +19,11 @@ use Rattle.board.specs.Member.{onBoard, stored, memberOf}
 use Rattle.board.specs.Window.{Window, endsFit, found, roomed, windowOf}
 use Rattle.board.specs.Table.{WrongLength, WrongEntry, CellOn, WindowOn, Serves}
 use Rattle.board.proofs.Valid.{both}
+use Rattle.board.proofs.Tests.{no-path, not-passed, cell-test}
 use Rattle.board.proofs.Refused.{past-test, by-test, past-first, by-first}
 use Rattle.board.proofs.Exactly.{check-numbers}
 
 -- ---- the tests in the table's words
-
--- a test is passed or not
-no-path : true ≡ false → ⊥
-no-path e = let z : _≡_ {A = ℕ} 0 1 = cc in omega arith
 
 -- two lists of one length that are not equal differ in an entry
 differ-at : (xs ys : List ℕ) → length xs ≡ length ys → (xs ≡ ys → ⊥) → (k : ℕ) × (k < length ys) × (getD xs k 0 ≡ getD ys k 0 → ⊥)
@@ -50,16 +47,6 @@ wrong-directory bytes d f =
 directory-wrong : (bytes d : List ℕ) → WrongLength (length d) bytes ⊎ WrongEntry d bytes → alike d (directoryOf bytes) ≡ false
 directory-wrong bytes d (inl n) = sym (alike-false d (directoryOf bytes) (λ e. n (ap length e ∙ length-directory bytes)))
 directory-wrong bytes d (inr (k, l, n)) = sym (alike-false d (directoryOf bytes) (λ e. n (ap (λ (x : List ℕ). getD x k 0) e)))
-
--- a cell on the board
-cell-on : (h r c : ℕ) → (onBoard h r c ≡ true) ↔ CellOn h r c
-unfolding onBoard
-cell-on h r c = ((λ e. let t = both (ltb r (2 ^ h)) (ltb c (2 ^ h)) e in (ltb-true r (2 ^ h) (t .0), ltb-true c (2 ^ h) (t .1))), λ o. rw (lt-ltb r (2 ^ h) (o .0), lt-ltb c (2 ^ h) (o .1)))
-
--- a test that says P is not passed exactly where P is not so
-not-passed : (t : Bool) {P : Type 0} → (t ≡ true) ↔ P → (t ≡ false) ↔ (P → ⊥)
-not-passed true e = ((λ f. absurd (no-path f)), λ n. absurd (n (e .0 refl)))
-not-passed false e = ((λ f p. no-path (sym (e .1 p))), λ n. refl)
 
 -- ---- the check and the directory, and then what is asked
 
@@ -138,7 +125,7 @@ module _ (h : ℕ) (bytes d : List ℕ) (r c : ℕ) where
   pub member-12 : (memberOf h bytes d r c ≡ Refused 12) ↔ (Serves (checkOf h bytes) × (d ≡ directoryOf bytes) × (CellOn h r c → ⊥))
   unfolding memberOf
   member-12 =
-      let on = not-passed (onBoard h r c) (cell-on h r c) in
+      let on = not-passed (onBoard h r c) (cell-test h r c) in
       let asked = after-six h bytes d member-rest 12 (omega arith) in
       ((λ e. let s = asked .0 e in (s .0, s .1, on .0 (by-test 12 (onBoard h r c) _ (λ f. not-both (sym f)) (s .2)))), λ s. asked .1 (s .0, s .1, rw (on .1 (s .2))))
 
