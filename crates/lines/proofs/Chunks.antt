@@ -12,14 +12,14 @@ use Rattle.sheet.specs.declared.kind.Stage.the-variants.{Requests}
 use Rattle.sheet.specs.declared.record.Record.{Record}
 use Rattle.sheet.specs.declared.record.Record.the-variants.{Board, Joint, Question, Window, End}
 use Rattle.sheet.specs.Records.{recordAt, kindIn, nextAfter}
-use Rattle.sheet.specs.Sheet.{Accepted, sheetOf, heightAfter, heightIn, afterJoints}
+use Rattle.sheet.specs.Sheet.{Accepted, maxRecords, maxBytes, sheetOf, heightAfter, heightIn, afterJoints}
 use Rattle.sheet.specs.Promise.{readOf, bitmapIn}
 use Rattle.sheet.proofs.Scanning.{read-as}
 use Rattle.sheet.proofs.Shape.{Stand, last, more, sheet-shape}
 use Rattle.lines.specs.Text.{bytesOf, textOf}
 use Rattle.lines.specs.Requests.{Desk, requestLines, readLines, nextIn}
 use Rattle.lines.specs.Start.{firstLine}
-use Rattle.lines.specs.Whole.{maxRecords, maxBytes, reportDesk, linesOf, restOf, reportOf, chunksFrom}
+use Rattle.lines.specs.Whole.{reportDesk, linesOf, restOf, reportOf, chunksFrom}
 
 -- the place of the next record is farther on
 pub next-on : (sheet : List ℕ) (at : ℕ) (a : Answer Record) → at < length sheet → at < nextIn sheet at a

@@ -8,3 +8,4 @@ pub mod Questions
 pub mod Starting
 pub mod Chunks
 pub mod Enough
+pub mod Determined

@@ -9,21 +9,14 @@ use Rattle.board.specs.Limits.{maxJoints}
 use Rattle.sheet.specs.declared.kind.Stage.the-variants.{Requests}
 use Rattle.sheet.specs.declared.record.Record.{Record}
 use Rattle.sheet.specs.Records.{recordAt}
-use Rattle.sheet.specs.Sheet.{Verdict, Accepted, RefusedAt, sheetOf, heightIn, requestsIn}
+use Rattle.sheet.specs.Sheet.{Verdict, Accepted, RefusedAt, maxRecords, maxBytes, sheetOf, heightIn, requestsIn}
 use Rattle.sheet.specs.Promise.{readOf, bitmapIn}
 use Rattle.lines.specs.Text.{Line, textOf}
 use Rattle.lines.specs.Report.{maxAnswers, maxTrail}
 use Rattle.lines.specs.Requests.{Desk, requestLines, readLines, nextIn}
 use Rattle.lines.specs.Start.{firstLine}
 
--- the program's room: joint records of the longest sheet, and the bytes of the largest bitmap
-abbrev pub maxRecords : ℕ
-maxRecords = 5957
-
-abbrev pub maxBytes : ℕ
-maxBytes = 8875
-
--- its started blocks of 64 bytes
+-- the started blocks of 64 bytes of the largest bitmap
 abbrev pub maxBlocks : ℕ
 maxBlocks = 139
 

@@ -1,7 +1,10 @@
 // The report of a joint sheet: its lines, as bytes in a lent buffer.
-pub mod line;
+mod line;
 mod question;
-pub mod record;
+mod record;
 pub mod request;
 pub mod start;
-pub mod text;
+mod text;
+
+// Enough bytes for the lines of any record.
+pub const ROOM: usize = 131072;

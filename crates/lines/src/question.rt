@@ -22,7 +22,7 @@ use nearest::ask::asked;
 use nearest::distance::Place;
 
 // The most joints that are found for a question.
-pub const MAX_ANSWERS: usize = 255;
+pub(crate) const MAX_ANSWERS: usize = 255;
 
 // A joint found, by its key.
 fn put_key(key: u64, out: &mut [u8], at: usize) -> usize
@@ -69,7 +69,7 @@ fn put_answer(answer: Nearest, k: u32, keys: &[u64], trail: &[u32], out: &mut [u
 }
 
 // The lines of a question; how many bytes they have.
-pub fn ask_lines(
+pub(crate) fn ask_lines(
     height: u32,
     bytes: &[u8],
     directory: &[u16],

@@ -13,9 +13,6 @@ use crate::line::put_win;
 use board::window::Windowed;
 use board::window::window;
 
-// Enough bytes for the lines of any record.
-pub const ROOM: usize = 131072;
-
 // The lines of so many cells, the first of two lists.
 fn put_cells(count: u32, rows: &[u32], columns: &[u32], out: &mut [u8]) -> usize
     requires { ⌜ (count ≤ length (now rows)) × (count ≤ length (now columns)) × (count ≤ maxJoints) × (room ≤ length (now out)) ⌝ }
@@ -27,7 +24,7 @@ fn put_cells(count: u32, rows: &[u32], columns: &[u32], out: &mut [u8]) -> usize
 }
 
 // The lines of a window; how many bytes they have.
-pub fn window_lines(
+pub(crate) fn window_lines(
     height: u32,
     bytes: &[u8],
     directory: &[u16],

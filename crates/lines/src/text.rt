@@ -49,7 +49,7 @@ fn put_word(word: &[u8], out: &mut [u8], at: usize) -> usize
 }
 
 // Puts a line: a word, numbers, and a line feed.
-pub fn put_line(word: &[u8], numbers: &[u32], out: &mut [u8], at: usize) -> usize
+pub(crate) fn put_line(word: &[u8], numbers: &[u32], out: &mut [u8], at: usize) -> usize
     requires { ⌜ Fits (bytesOf (record { word = now word; numbers = now numbers })) at (now out) ⌝ }
     ensures { λ r. ⌜ Put (bytesOf (record { word = now (word .entry); numbers = now (numbers .entry) })) at (now (out .entry)) r (now (out .exit)) ⌝ }
 {

@@ -7,3 +7,4 @@ pub mod Reading
 pub mod Theorems
 pub mod Served
 pub mod Refusals
+pub mod Determined

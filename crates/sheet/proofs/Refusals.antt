@@ -21,7 +21,7 @@ use Rattle.sheet.specs.declared.record.Record.{Record}
 use Rattle.sheet.specs.declared.record.Record.the-variants.{End as Ended}
 use Rattle.sheet.specs.Kinds.{kindOf, knownOf, bodyLength, inPlace, stageAfter}
 use Rattle.sheet.specs.Records.{measureAt, markedAt, bodyOf, recordAt, kindIn, nextAfter}
-use Rattle.sheet.specs.Sheet.{Verdict, Accepted, RefusedAt, offset, _onward_, heightAfter, withRest, records, sheetOf, maxSheet, heightIn, cellsIn}
+use Rattle.sheet.specs.Sheet.{Verdict, Accepted, RefusedAt, offset, _onward_, heightAfter, withRest, records, sheetOf, maxSheet, maxRecords, maxBytes, heightIn, cellsIn}
 use Rattle.sheet.specs.Promise.{readOf as readSheet}
 use Rattle.sheet.specs.Scan.{isEnd}
 use Rattle.sheet.proofs.Recording.{known-nothing}
@@ -140,7 +140,7 @@ unfolding readSheet
 read-refused-at sheet work room m at e = rw e
 
 -- with room for 5,957 codes and 8,875 bytes no sheet is refused by 10 or 18
-pub never-room : (sheet : List ℕ) (work room n o : ℕ) → 5957 ≤ work → 8875 ≤ room → readSheet sheet work room ≡ RefusedAt n o → OfRecords n
+pub never-room : (sheet : List ℕ) (work room n o : ℕ) → maxRecords ≤ work → maxBytes ≤ room → readSheet sheet work room ≡ RefusedAt n o → OfRecords n
 never-room sheet work room n o wide long e = by-verdict (sheetOf sheet) refl
   where
     by-joints : (rs : List Record) → sheetOf sheet ≡ Accepted rs → (t : Bool) → leb (length (setOf (heightIn 0 rs) (cellsIn rs))) maxJoints ≡ t → OfRecords n

@@ -1,4 +1,4 @@
--- What reading a sheet is worth: one result, a valid board, and the room that is always enough.
+-- What reading a sheet is worth: a valid board, and the room that is always enough.
 use Prim.Native.Nat.{ℕ, _≤_, _<_}
 use mathlib.Core.Path.{_≡_, sym, _∙_}
 use mathlib.Core.List.{List, [], _∷_, map}
@@ -17,25 +17,9 @@ use Rattle.build.proofs.Theorems.{built-valid, built-joints, built-fits}
 use Rattle.sheet.specs.declared.Sheeted.{Sheeted}
 use Rattle.sheet.specs.declared.Sheeted.the-variants.{Board, Refused as Turned}
 use Rattle.sheet.specs.declared.record.Record.{Record}
-use Rattle.sheet.specs.Sheet.{Accepted, RefusedAt, maxSheet, sheetOf, heightIn, cellsIn, afterJoints}
+use Rattle.sheet.specs.Sheet.{Accepted, RefusedAt, maxSheet, maxRecords, maxBytes, sheetOf, heightIn, cellsIn, afterJoints}
 use Rattle.sheet.specs.Promise.{sheetedOf, boardOf, readOf, bitmapIn, Promise}
 use Rattle.sheet.proofs.Shape.{sheet-shape, not-accepted}
-
--- an answer in numbers is one answer
-pub numbers-one : (r s : Sheeted) → sheetedOf r ≡ sheetedOf s → r ≡ s
-numbers-one (Board h j g l o) (Board h′ j′ g′ l′ o′) e = cc
-numbers-one (Board h j g l o) (Turned s at) e = not-accepted (sym e)
-numbers-one (Turned r at) (Board h j g l o) e = not-accepted e
-numbers-one (Turned r at) (Turned s there) e =
-    let same : r ≡ s = one-to-twenty .distinct r s (let n : _ ≡ _ = cc in n) in
-    let place : at ≡ there = cc in
-    rw (same, place)
-
--- two results that keep the promise are equal
-pub one-result : (sheet work bitmap : List ℕ) (r s : Sheeted) (w b w′ b′ : List ℕ)
-    → Promise sheet work bitmap r w b → Promise sheet work bitmap s w′ b′ → (r ≡ s) × (w ≡ w′) × (b ≡ b′)
-one-result sheet work bitmap r s w b w′ b′ p q =
-    (numbers-one r s (p .answered ∙ sym (q .answered)), p .work-left ∙ sym (q .work-left), p .bitmap-left ∙ sym (q .bitmap-left))
 
 -- a sheet of 65,537 bytes or more is 19 whatever it holds
 pub too-long : (sheet : List ℕ) (work room : ℕ) → 65537 ≤ length sheet → readOf sheet work room ≡ RefusedAt 19 0
@@ -44,7 +28,7 @@ too-long sheet work room long = rw (lt-leb (length sheet) 65536 (omega arith))
 
 module _ (sheet : List ℕ) (rs : List Record) (e : sheetOf sheet ≡ Accepted rs) where
   -- an accepted sheet has at most 5,957 joint records
-  pub joint-records : length (cellsIn rs) ≤ 5957
+  pub joint-records : length (cellsIn rs) ≤ maxRecords
   unfolding maxSheet
   joint-records = let s = sheet-shape sheet rs e in omega (arith, s .short, s .long)
 
@@ -58,7 +42,7 @@ module _ (sheet : List ℕ) (rs : List Record) (e : sheetOf sheet ≡ Accepted r
   board-joints = rw e (built-joints (heightIn 0 rs) (cellsIn rs) (sheet-shape sheet rs e .high))
 
   -- with room for 5,957 codes and 8,875 bytes neither 10 nor 18 is given: it is refused by 5 alone
-  pub room-enough : (work room : ℕ) → 5957 ≤ work → 8875 ≤ room → length (setOf (heightIn 0 rs) (cellsIn rs)) ≤ maxJoints
+  pub room-enough : (work room : ℕ) → maxRecords ≤ work → maxBytes ≤ room → length (setOf (heightIn 0 rs) (cellsIn rs)) ≤ maxJoints
       → readOf sheet work room ≡ Accepted (heightIn 0 rs ∷ length (setOf (heightIn 0 rs) (cellsIn rs)) ∷ groups (heightIn 0 rs) (bitmapIn (sheetOf sheet)) ∷ length (bitmapIn (sheetOf sheet)) ∷ afterJoints rs ∷ [])
   unfolding readOf boardOf codesBuiltOf bitmapIn bitmapOf setOf
   room-enough work room wide long few =

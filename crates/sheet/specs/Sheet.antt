@@ -17,6 +17,14 @@ use Rattle.sheet.specs.Records.{recordAt, kindIn, nextAfter}
 unfoldable pub maxSheet : ℕ
 maxSheet = 65536
 
+-- the most joint records that stand in so many (theorem `joint-records`)
+abbrev pub maxRecords : ℕ
+maxRecords = 5957
+
+-- the bytes of the largest bitmap (theorem `groups-at-most` of the board)
+abbrev pub maxBytes : ℕ
+maxBytes = 8875
+
 -- accepted, or refused with a number and an offset
 pub data Verdict (A : Type 0) : Type 0 where
   Accepted : A → Verdict A

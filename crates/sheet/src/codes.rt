@@ -6,15 +6,16 @@ ghost use lib.ListN.{length, drop};
 ghost use Rattle.board.specs.Limits.{maxHeight};
 ghost use Rattle.sheet.specs.Sheet.{jointOffset};
 ghost use Rattle.sheet.specs.Codes.{codeIn, codeAt, codesAt};
+use crate::kind::JOINT_BODY;
 use crate::kind::Stage;
 use crate::record::Record;
 use crate::record::Recorded;
 use crate::record::record_at;
 
 // The offset of the first joint record, and the bytes of each.
-pub const FIRST_JOINT: usize = 2;
+pub(crate) const FIRST_JOINT: usize = 2;
 
-pub const JOINT_RECORD: usize = 11;
+pub(crate) const JOINT_RECORD: usize = 1 + JOINT_BODY;
 
 // The code of a joint's cell; another record has none.
 fn code_of(height: u32, found: Record) -> u32
@@ -42,7 +43,7 @@ fn code_at(sheet: &[u8], at: usize, height: u32) -> u32
 }
 
 // The codes of so many joints, from the first place of the work list on.
-pub fn fill(sheet: &[u8], height: u32, joints: usize, work: &mut [u32])
+pub(crate) fn fill(sheet: &[u8], height: u32, joints: usize, work: &mut [u32])
     requires { ⌜ (height ≤ maxHeight) × (joints ≤ length (now work)) × (jointOffset joints ≤ length (now sheet)) ⌝ }
     ensures { λ _. ⌜ now (work .exit) ≡ codesAt height (now (sheet .entry)) joints ++ drop joints (now (work .entry)) ⌝ }
 {

@@ -2,7 +2,10 @@
 ghost use mathlib.Core.Path.{_≡_};
 ghost use Rattle.sheet.specs.Kinds.{kindOf, knownOf, isBoard, isJoint, inPlace};
 
-pub enum Kind {
+// The bytes of a joint record's body.
+pub(crate) const JOINT_BODY: usize = 10;
+
+pub(crate) enum Kind {
     Board,
     Joint,
     Question,
@@ -18,12 +21,12 @@ pub enum Stage {
 }
 
 // What a byte of kind says: the kind and the length of its body, or that there is no such kind.
-pub enum Known {
+pub(crate) enum Known {
     Body { kind: Kind, length: usize },
     Nothing,
 }
 
-pub fn kind_of(byte: u8) -> Known
+pub(crate) fn kind_of(byte: u8) -> Known
     ensures { λ r. ⌜ r ≡ knownOf (kindOf byte) ⌝ }
 {
     match byte {
@@ -33,7 +36,7 @@ pub fn kind_of(byte: u8) -> Known
         },
         2 => Known::Body {
             kind: Kind::Joint,
-            length: 10,
+            length: JOINT_BODY,
         },
         3 => Known::Body {
             kind: Kind::Question,
@@ -76,7 +79,7 @@ fn is_joint(kind: Kind) -> bool
 }
 
 // Whether a record of a kind may stand where a sheet has come so far.
-pub fn in_place(stage: Stage, kind: Kind) -> bool
+pub(crate) fn in_place(stage: Stage, kind: Kind) -> bool
     ensures { λ r. ⌜ r ≡ inPlace stage kind ⌝ }
 {
     match stage {

@@ -16,10 +16,15 @@ use crate::scan::Scanned;
 use build::Built;
 use refusal::Refusal;
 
-pub mod codes;
+mod codes;
 pub mod kind;
 pub mod record;
-pub mod scan;
+mod scan;
+
+// The most bytes of a sheet, and the most joint records that stand in so many.
+pub const MAX_SHEET: usize = 65536;
+
+pub const MAX_RECORDS: usize = 5957;
 
 // What reading a sheet answers: of its board the height, the distinct joints, the boxes, the bitmap's length in bytes, and the
 // offset of the first record after the joints; or why and where the sheet is refused.

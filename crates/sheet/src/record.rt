@@ -39,7 +39,7 @@ pub enum Record {
 }
 
 // What a body says.
-pub enum Said {
+pub(crate) enum Said {
     Record(Record),
     Refused(Refusal),
 }

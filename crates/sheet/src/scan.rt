@@ -4,23 +4,21 @@ ghost use Prim.Native.Nat.{_≤_, _<_};
 ghost use lib.ListN.{length};
 ghost use Rattle.board.specs.Limits.{maxHeight};
 ghost use Rattle.sheet.specs.Scan.{isEnd, placeAfter, startPlace, scannedOf, scanOf, Stepped};
+use crate::MAX_SHEET;
 use crate::kind::Stage;
 use crate::record::Record;
 use crate::record::Recorded;
 use crate::record::record_at;
 use refusal::Refusal;
 
-// The most bytes of a sheet.
-pub const MAX_SHEET: usize = 65536;
-
 // What a scan says: the height and the number of joint records, or why and where the sheet is refused.
-pub enum Scanned {
+pub(crate) enum Scanned {
     Sheet { height: u32, joints: usize },
     Refused { refusal: Refusal, offset: usize },
 }
 
 // How far a sheet is read: the offset of the next record, and what those before it give.
-pub struct Place {
+pub(crate) struct Place {
     pub at: usize,
     pub stage: Stage,
     pub height: u32,
@@ -28,7 +26,7 @@ pub struct Place {
 }
 
 // After one record: it goes on at a place, or this is the answer.
-pub enum Going {
+pub(crate) enum Going {
     On(Place),
     Off(Scanned),
 }
@@ -127,7 +125,7 @@ fn step(sheet: &[u8], place: Place) -> Going
 }
 
 // The scan of any bytes.
-pub fn scan(sheet: &[u8]) -> Scanned
+pub(crate) fn scan(sheet: &[u8]) -> Scanned
     ensures { λ r. ⌜ scannedOf r ≡ scanOf (now (sheet .entry)) ⌝ }
 {
     if MAX_SHEET < sheet.len() {

@@ -3,10 +3,6 @@ use Prim.Native.Nat.{ℕ}
 use mathlib.Core.List.{List, [], _∷_}
 use Rattle.sheet.specs.Sheet.{Verdict, Accepted, RefusedAt}
 
--- the most joint records of a sheet
-abbrev pub maxRecords : ℕ
-maxRecords = 5957
-
 -- 0, or the number of refusal
 abbrev pub numberAt : Verdict (List ℕ) → ℕ
 numberAt (Accepted vs) = 0

@@ -7,16 +7,14 @@ ghost use lib.ListN.{length};
 ghost use Rattle.refusal.specs.Answer.{leftIn, numberIn, valueIn};
 ghost use Rattle.measure.specs.Measure.{readOf, readMarkedOf};
 ghost use Rattle.board.specs.Check.{checkOf};
-ghost use Rattle.sheet.specs.Sheet.{sheetOf};
+ghost use Rattle.sheet.specs.Sheet.{maxRecords, sheetOf};
 ghost use Rattle.sheet.specs.Promise.{answerIn, bitmapIn, readOf as sheetReadOf};
-ghost use Rattle.tablet.specs.Sheets.{maxRecords, numberAt, valuesAt};
+ghost use Rattle.tablet.specs.Sheets.{numberAt, valuesAt};
 use board::check::Checked;
 use measure::Marked;
 use measure::Reading;
+use sheet::MAX_RECORDS;
 use sheet::Sheeted;
-
-// The most joint records that a sheet can have: there is always room for them.
-const MAX_RECORDS: usize = 5957;
 
 // A measure of five bytes, as 012,5, in half millimetres.
 #[no_mangle]
@@ -79,7 +77,7 @@ pub extern "C" fn joint_board_check(
     }
 }
 
-// Builds the board of a joint sheet into the bitmap's room. The offset is that of the first record after the joints, or after a refusal where
+// Builds the board of a joint sheet into the bitmap's room, with work room for the joints of the longest sheet. The offset is that of the first record after the joints, or after a refusal where
 // the sheet is wrong.
 #[no_mangle]
 pub extern "C" fn joint_board_build(
