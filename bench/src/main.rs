@@ -45,10 +45,10 @@ fn check(board: &Board) {
     must(expected.0 == 0 && Ours::check(HEIGHT, &bytes) == expected, "check", &board.name);
     let timing = compare(
         &mut || {
-            black_box(Ours::check(HEIGHT, black_box(&bytes)));
+            black_box(Ours::check(black_box(HEIGHT), black_box(&bytes)));
         },
         &mut || {
-            black_box(Plain::check(HEIGHT, black_box(&bytes)));
+            black_box(Plain::check(black_box(HEIGHT), black_box(&bytes)));
         },
     );
     row("check", &board.name, &timing, 1.5);
@@ -65,10 +65,10 @@ fn directory(board: &Board) {
     );
     let timing = compare(
         &mut || {
-            black_box(Ours::directory(HEIGHT, black_box(&bytes), ours));
+            black_box(Ours::directory(black_box(HEIGHT), black_box(&bytes), ours));
         },
         &mut || {
-            black_box(Plain::directory(HEIGHT, black_box(&bytes), plain));
+            black_box(Plain::directory(black_box(HEIGHT), black_box(&bytes), plain));
         },
     );
     row("check and make the directory", &board.name, &timing, 1.5);
@@ -103,10 +103,10 @@ fn build_cells(board: &Board) {
     must(expected.0 == 0 && same, "build from cells", &board.name);
     let timing = compare(
         &mut || {
-            black_box(Ours::build(HEIGHT, black_box(&rows), black_box(&columns), our_work, ours));
+            black_box(Ours::build(black_box(HEIGHT), black_box(&rows), black_box(&columns), our_work, ours));
         },
         &mut || {
-            black_box(Plain::build(HEIGHT, black_box(&rows), black_box(&columns), plain_work, plain));
+            black_box(Plain::build(black_box(HEIGHT), black_box(&rows), black_box(&columns), plain_work, plain));
         },
     );
     row("build from shuffled cells", &board.name, &timing, 2.0);
