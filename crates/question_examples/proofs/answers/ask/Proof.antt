@@ -52,7 +52,6 @@ use Rattle.nearest.proofs.distance.Place as T-Place
 use Rattle.nearest.proofs.distance.Place.Laws as L-Place
 use Rattle.nearest.specs.declared.answer.Answer.{Answer}
 use Rattle.nearest.proofs.answer.Answer as T-Answer
-use Rattle.nearest.proofs.answer.Answer.Laws as L-Answer
 use Rattle.nearest.proofs.Again.{LentAgain, lends-at, back-at}
 use Rattle.nearest.proofs.Unasked.{unasked}
 use Rattle.nearest.proofs.nearest as nearest-f
@@ -74,9 +73,6 @@ Needs-0 height bytes directory place k answers keys corners trail numbers = leng
 
 abbrev Done-0 : ℕ → List ℕ → List ℕ → Place → ℕ → List Answer → List ℕ → List ℕ → List ℕ → List ℕ → Nearest → List Answer → List ℕ → List ℕ → List ℕ → List ℕ → Type 0
 Done-0 height bytes directory place k answers keys corners trail numbers r answers′ keys′ corners′ trail′ numbers′ = length (numbers′) ≡ length (numbers)
-
-abbrev Needs-1 : ℕ → List ℕ → List ℕ → ℤ → ℤ → ℕ → List Answer → List ℕ → List ℕ → List ℕ → Type 0
-Needs-1 height bytes directory row column k answers keys corners trail = Unit {0}
 
 abbrev Done-1 : ℕ → List ℕ → List ℕ → ℤ → ℤ → ℕ → List Answer → List ℕ → List ℕ → List ℕ → Nearest → List Answer → List ℕ → List ℕ → List ℕ → Type 0
 Done-1 height bytes directory row column k answers keys corners trail r answers′ keys′ corners′ trail′ = Kept height (bytes) (directory) row column k (record { answers = answers; keys = keys; corners = corners; trail = trail }) r (record { answers = answers′; keys = keys′; corners = corners′; trail = trail′ })
@@ -110,9 +106,6 @@ mach-Place r = LL.tuple-val T-Place.the-type L-Place.the-laws (T-Place.the-type 
 abbrev R-Answer : RattleType
 R-Answer = T-Answer.the-row
 
-abbrev mach-Answer : Answer → Val
-mach-Answer r = LL.tuple-val T-Answer.the-type L-Answer.the-laws (T-Answer.the-type .to r)
-
 abbrev stayed : Stays (ask-f.ended .signature .params) (ask-f.ended .kept)
 stayed = (stay-dropped (plain (λ _. u32)) yes, (stay-dropped (shrSliceOf (0 ∷ []) tt (plain (λ _. u8))) yes, (stay-dropped (shrSliceOf (1 ∷ []) tt (plain (λ _. u16))) yes, (stay-dropped (plain (λ _. R-Place)) yes, (stay-dropped (plain (λ _. u32)) yes, (stay-slice (2 ∷ []) tt (plain (λ _. R-Answer)), (gave-slice (3 ∷ []) tt (plain (λ _. u64)), (gave-slice (4 ∷ []) tt (plain (λ _. u32)), (gave-slice (5 ∷ []) tt (plain (λ _. u32)), (gave-slice (6 ∷ []) tt (plain (λ _. u32)), tt))))))))))
 
@@ -129,9 +122,6 @@ module _ {M : Type 1} (𝓤 : URA M) (H : Heap 𝓤) (A : Atoms 𝓤) (W : Given
 
   typed-Place : (r : Place) (v : Val) → Is R-Place r (v ∷ []) → Holds (hasTy L-Place.mir v) × WT v
   typed-Place r v is = LL.lawful T-Place.the-type L-Place.the-laws 𝓤 H A W .typed r _ is .0
-
-  typed-Answer : (r : Answer) (v : Val) → Is R-Answer r (v ∷ []) → Holds (hasTy L-Answer.mir v) × WT v
-  typed-Answer r v is = LL.lawful T-Answer.the-type L-Answer.the-laws 𝓤 H A W .typed r _ is .0
 
   abbrev x-bytes : RefT (List ℕ)
   x-bytes = record { ptr = (b-bytes, o-bytes); name = γ-bytes; now = v-bytes }

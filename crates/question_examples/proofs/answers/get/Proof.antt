@@ -101,54 +101,23 @@ module _ {M : Type 1} (𝓤 : URA M) (H : Heap 𝓤) (A : Atoms 𝓤) (W : Given
         pass1 ! (init ! 8 refl (tt, (tt, (record { fits = room-list .0 }, tt)))) $
         pass1 ! (init ! 6 refl (tt, record { fits = fits-at })) $
         pass0 ! $
-        move ! (12 ∷ []) $
-        split ! $
-        move ! (1 ∷ []) $
-        drop ! $
-        move ! (13 ∷ []) $
-        fsplit ! $
-        move ! (1 ∷ []) $
-        fsplit ! $
-        drop ! $
-        drop ! $
+        move ! (12 ∷ []) $ split ! $ move ! (1 ∷ []) $ drop ! $ move ! (13 ∷ []) $ fsplit ! $ move ! (1 ∷ []) $ fsplit ! $ drop ! $ drop ! $
         assigns ! (bin ! (load ! (from ! (stop !)) (look ! 8 refl)) (lit ! tt) (record { fits = (sums-1 v-list v-at need (room-list .0) (room-list .1) fits-at) })) (from ! (stop !)) (init ! 6 refl (tt, record { fits = (sums-1 v-list v-at need (room-list .0) (room-list .1) fits-at) })) $
         assigns ! (bin ! (load ! (from ! (fld ! refl (stop !))) (look-in ! 10 (sub ! 0 refl (whole !)))) (load ! (from ! (stop !)) (look ! 6 refl)) tt) (from ! (stop !)) (init ! 4 refl (tt, tt)) $
         rewrite ! 4 (λ (u : ℕ). ‵ (fat fullShare tyPtr l4 0 (vptr b-list u))) (sym (place-is 12 o-list v-at)) refl $
-        fsplit ! $ move ! (1 ∷ []) $ fsplit ! $
-        move ! (0 ∷ 1 ∷ 3 ∷ []) $
+        fsplit ! $ move ! (1 ∷ []) $ fsplit ! $ move ! (0 ∷ 1 ∷ 3 ∷ []) $
         opens-slice ! tt R-Answer v-list b-list o-list $
         elem-out ! R-Answer (Is R-Answer) (shows 𝓤 H A R-Answer) (LL.vals T-Answer.the-type L-Answer.the-laws) (LL.tells T-Answer.the-type L-Answer.the-laws) fullShare v-list v-at (record { row = 0; column = 0; distance = 0 }) b-list o-list (index-1 v-list v-at need (room-list .0) (room-list .1) fits-at) (λ ise1.
         assigns ! (of-opd ! (load ! (from ! (hop ! (look ! 9 refl) (stop !))) (look-raw ! 0 refl))) (from ! (stop !)) (init ! 7 refl (typed-Answer (getD v-list v-at (record { row = 0; column = 0; distance = 0 })) _ ise1)) $
         elem-back ! R-Answer fullShare v-list v-at (record { row = 0; column = 0; distance = 0 }) ((mach-Answer (getD v-list v-at (record { row = 0; column = 0; distance = 0 }))) ∷ []) b-list o-list (index-1 v-list v-at need (room-list .0) (room-list .1) fits-at) $
         closes-slice ! tt R-Answer v-list v-list refl b-list o-list $
-        fjoin ! $
-        move ! (2 ∷ 0 ∷ []) $
-        fjoin ! $
+        fjoin ! $ move ! (2 ∷ 0 ∷ []) $ fjoin ! $
         assigns ! (of-opd ! (load ! (from ! (stop !)) (look ! 2 refl))) (from ! (stop !)) (init ! 12 refl (typed-Answer (getD v-list v-at (record { row = 0; column = 0; distance = 0 })) _ ise1)) $
         returns ! (look ! 12 refl) $ forget ! 12 refl $ forget ! 10 refl $ forget ! 8 refl $ forget ! 6 refl $ forget ! 4 refl $ forget ! 2 refl $
-        move ! (12 ∷ 13 ∷ []) $
-        free1 ! $
-        move ! (10 ∷ 11 ∷ []) $
-        free1 ! $
-        move ! (8 ∷ 9 ∷ []) $
-        free1 ! $
-        move ! (6 ∷ 7 ∷ []) $
-        free1 ! $
-        move ! (4 ∷ 5 ∷ []) $
-        free1 ! $
-        move ! (2 ∷ 3 ∷ []) $
-        free1 ! $
-        free0 ! $
+        move ! (12 ∷ 13 ∷ []) $ free1 ! $ move ! (10 ∷ 11 ∷ []) $ free1 ! $ move ! (8 ∷ 9 ∷ []) $ free1 ! $ move ! (6 ∷ 7 ∷ []) $ free1 ! $
+        move ! (4 ∷ 5 ∷ []) $ free1 ! $ move ! (2 ∷ 3 ∷ []) $ free1 ! $ free0 ! $
         suffices ! _ (ends-at 𝓤 H A get-f.ended stayed (get-f.clauses 𝓤 H A at-mem run) W (((κ-0, tt), (q-0, tt), tt, a, vals), tt) ((mach-Answer (getD v-list v-at (record { row = 0; column = 0; distance = 0 })))) (getD v-list v-at (record { row = 0; column = 0; distance = 0 })) (v-list, (tt, tt)) (refl, (tt, tt))) $ says ! (says-get v-list v-at need (room-list .0) (room-list .1) fits-at) $
-        nothing ! $
-        move ! (2 ∷ 0 ∷ []) $
-        join ! $
-        frame ! $
-        nothing ! $
-        nothing ! $
-        fjoin ! $
-        move ! (1 ∷ 0 ∷ []) $
-        fjoin ! $
+        nothing ! $ move ! (2 ∷ 0 ∷ []) $ join ! $ frame ! $ nothing ! $ nothing ! $ fjoin ! $ move ! (1 ∷ 0 ∷ []) $ fjoin ! $
         owned ! R-Answer (Is R-Answer) (LL.makes T-Answer.the-type L-Answer.the-plain 𝓤 H A) (getD v-list v-at (record { row = 0; column = 0; distance = 0 })) _ ise1 $ move ! (1 ∷ 0 ∷ []) $
         keep ! (0 ∷ 1 ∷ []) $ done !)))))))
 

@@ -280,9 +280,6 @@ module _ {M : Type 1} (𝓤 : URA M) (H : Heap 𝓤) (A : Atoms 𝓤) (W : Given
   first-state = record { n3 = 0; l-list = v-list; l-numbers = v-numbers; fits3 = lit< tt; len-list = refl; len-numbers = refl; inv = (starts v-list v-numbers need) }
 
   module _ (𝓣 : Tables 𝓤 H) (known-1 : Triple 𝓤 (𝓣 .C #question-examples·answers·get) (C-1 𝓤 H A at-mem run)) (known-2 : Triple 𝓤 (𝓣 .C #question-examples·answers·set) (C-2 𝓤 H A at-mem run)) where
-    abbrev C₁ : Calls 𝓤 H
-    C₁ = 𝓣 .C
-
     walk : ent 𝓤 (onEntry 𝓤 H A read-back-f.signature (κ-0, (κ-1, tt)) (q-0, (q-1, tt)) a vals) (WpFn 𝓤 H (𝓣 .C) (𝓣 .Λ) code.function (sliceVal (b-list, o-list) (length v-list) ∷ sliceVal (b-numbers, o-numbers) (length v-numbers) ∷ []) Post)
     walk =
         qed W ((‵ (flft κ-0 q-0) ⊛ ‵ (flft κ-1 q-1) ⊛ ‵ ftrue) ∷ ‵ (owns (MutSlice (named 0) κ-0 R-Answer ∷ MutSlice (named 1) κ-1 u32 ∷ []) a vals) ∷ []) ∵
