@@ -1,3 +1,4 @@
+-- A shift is a division by a power of two.
 use borrow.Author.Needs.{needs}
 use Rattle.bitmap.specs.Bits.{bitOf}
 use Rattle.bitmap.proofs.bit_in.Statement.{statement}

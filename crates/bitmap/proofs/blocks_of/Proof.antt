@@ -1,3 +1,4 @@
+-- The sum fits, since lengths are below 2 ^ 63.
 use borrow.Author.Needs.{needs}
 use Rattle.bitmap.specs.Directory.{blocks}
 use Rattle.bitmap.proofs.blocks_of.Statement.{statement}

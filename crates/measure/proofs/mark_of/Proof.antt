@@ -1,3 +1,4 @@
+-- A number below zero has a minus, any other a plus.
 use Prim.Native.Nat.{ℕ}
 use mathlib.Core.Bool.{true, false}
 use mathlib.Core.Path.{_≡_, refl}

@@ -1,3 +1,4 @@
+-- One more than a negative number has a negative that fits, and that is one less than the size.
 use Prim.Native.Nat.{ℕ, zero, suc, _+_}
 use mathlib.Core.Bool.{true, false}
 use mathlib.Core.Path.{_≡_, refl, ap}
@@ -6,7 +7,7 @@ use lib.IntN.{ℤ, pos, negsuc, natAbs, _+ℤ_, _-ℤ_}
 use lib.Dec.{T}
 use lib.Signed.{ltZ, mag, nonNeg}
 use mir.Syntax.{w32}
-use mir.Val.{SFits}
+use mir.Val.{SFits, toZ, ofZ}
 use mir.Facts.{toZ-ofZ}
 use borrow.Author.Tests.{ltb-true, lt-ltb}
 use Rattle.measure.proofs.size_of.Statement.{statement}
@@ -38,54 +39,53 @@ not-below : (z : ℤ) → ltZ z (pos 0) ≡ false → T (nonNeg z) × (natAbs z 
 not-below (pos n) h = (tt, refl)
 not-below (negsuc n) h = let x : _≡_ {A = ℕ} 0 1 = cc in absurd (omega arith)
 
+-- what the code holds on its way, read back from its bits: z, z + 1 and the negative of that
+record Way (z : ℤ) : Type 0 where
+  same : toZ w32 (ofZ w32 z) ≡ z
+  fits : SFits w32 (z +ℤ pos 1)
+  up : toZ w32 (ofZ w32 (z +ℤ pos 1)) ≡ z +ℤ pos 1
+  over : pos 0 -ℤ (z +ℤ pos 1) ≡ pos (mag z)
+  down : toZ w32 (ofZ w32 (pos (mag z))) ≡ pos (mag z)
+  size : mag z + 1 ≡ natAbs z
+
+way : (z : ℤ) → SFits w32 z → ltZ (toZ w32 (ofZ w32 z)) (pos 0) ≡ true → Way z
+way z h taken =
+    let neg : ltZ z (pos 0) ≡ true = rw (toZ-ofZ h) at taken in
+    record {
+      same = toZ-ofZ h;
+      fits = raised z neg h;
+      up = toZ-ofZ (raised z neg h);
+      over = turned z neg;
+      down = toZ-ofZ {w = w32} {z = pos (mag z)} (record { sfits = omega (arith, h) });
+      size = size-below z neg;
+    }
+
 add-result : tie.Need-add-result
-add-result c =
-    let z = c .before .args .z in
-    let same = toZ-ofZ (c .before .fits .z) in
-    let neg : ltZ z (pos 0) ≡ true = rw same at (c .if1 .taken) in
-    rw same (raised z neg (c .before .fits .z))
+add-result c = let w = way (c .before .args .z) (c .before .fits .z) (c .if1 .taken) in rw (w .same) (w .fits)
 
 sub-result : tie.Need-sub-result
 sub-result c =
-    let z = c .before .args .z in
-    let same = toZ-ofZ (c .before .fits .z) in
-    let neg : ltZ z (pos 0) ≡ true = rw same at (c .if1 .taken) in
-    let up = toZ-ofZ (raised z neg (c .before .fits .z)) in
-    rw (same, up, turned z neg) (record { sfits = omega (arith, c .before .fits .z) })
+    let w = way (c .before .args .z) (c .before .fits .z) (c .if1 .taken) in rw (w .same, w .up, w .over) (record { sfits = omega (arith, c .before .fits .z) })
 
 cast-result : tie.Need-cast-result
 cast-result c =
-    let z = c .before .args .z in
-    let same = toZ-ofZ (c .before .fits .z) in
-    let neg : ltZ z (pos 0) ≡ true = rw same at (c .if1 .taken) in
-    let up = toZ-ofZ (raised z neg (c .before .fits .z)) in
-    let down = toZ-ofZ {w = w32} {z = pos (mag z)} (record { sfits = omega (arith, c .before .fits .z) }) in
-    rw (same, up, turned z neg, down) (tt, record { fits = omega (arith, c .before .fits .z) })
+    let w = way (c .before .args .z) (c .before .fits .z) (c .if1 .taken) in
+    rw (w .same, w .up, w .over, w .down) (tt, record { fits = omega (arith, c .before .fits .z) })
 
 add-result-2 : tie.Need-add-result-2
 add-result-2 c =
-    let z = c .before .args .z in
-    let same = toZ-ofZ (c .before .fits .z) in
-    let neg : ltZ z (pos 0) ≡ true = rw same at (c .if1 .taken) in
-    let up = toZ-ofZ (raised z neg (c .before .fits .z)) in
-    let down = toZ-ofZ {w = w32} {z = pos (mag z)} (record { sfits = omega (arith, c .before .fits .z) }) in
-    rw (same, up, turned z neg, down) (record { fits = omega (arith, c .before .fits .z) })
+    let w = way (c .before .args .z) (c .before .fits .z) (c .if1 .taken) in
+    rw (w .same, w .up, w .over, w .down) (record { fits = omega (arith, c .before .fits .z) })
 
 returns : tie.Need-returns
-returns c =
-    let z = c .before .args .z in
-    let same = toZ-ofZ (c .before .fits .z) in
-    let neg : ltZ z (pos 0) ≡ true = rw same at (c .if1 .taken) in
-    let up = toZ-ofZ (raised z neg (c .before .fits .z)) in
-    let down = toZ-ofZ {w = w32} {z = pos (mag z)} (record { sfits = omega (arith, c .before .fits .z) }) in
-    rw (same, up, turned z neg, down) (size-below z neg)
+returns c = let w = way (c .before .args .z) (c .before .fits .z) (c .if1 .taken) in rw (w .same, w .up, w .over, w .down) (w .size)
 
 cast-result-2 : tie.Need-cast-result-2
 cast-result-2 c =
     let z = c .before .args .z in
     let same = toZ-ofZ (c .before .fits .z) in
-    let plain : ltZ z (pos 0) ≡ false = rw same at (c .if1 .left) in
-    rw same (not-below z plain .0, record { fits = omega (arith, c .before .fits .z, not-below z plain .1) })
+    let plain = not-below z (rw same at (c .if1 .left)) in
+    rw same (plain .0, record { fits = omega (arith, c .before .fits .z, plain .1) })
 
 returns-2 : tie.Need-returns-2
 returns-2 c = ap natAbs (toZ-ofZ (c .before .fits .z))

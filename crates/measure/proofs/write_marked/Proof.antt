@@ -1,3 +1,4 @@
+-- What was cleared, marked and then put is what the writer leaves.
 use mathlib.Core.Path.{_≡_}
 use mathlib.Core.List.{_∷_}
 use native.Mathlib.Omega.{arith}
