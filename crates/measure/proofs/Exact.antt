@@ -10,15 +10,11 @@ use lib.IntN.{ℤ, natAbs}
 use lib.ListN.{length}
 use lib.Dec.{leb}
 use Rattle.refusal.specs.Answer.{Answer, Served, Refused, _unless_}
-use Rattle.refusal.proofs.Answers.{not-both}
+use Rattle.refusal.proofs.Answers.{not-both, same-number}
 use Rattle.measure.specs.Measure.{maxMeasure, measure, marked, minus, isMark, readOf, readMarkedOf, written, writtenMarked, writeOf, writeMarkedOf}
 use Rattle.measure.specs.Parts.{withMark}
 use Rattle.measure.proofs.Written.{served-or-13, marked-served-or-13, read-written, written-read, read-written-marked, written-read-marked, marked-served}
 use Rattle.measure.proofs.Room.{within, without}
-
--- refused alike, by one number
-same-number : {A : Type 0} {m n : ℕ} → _≡_ {A = Answer A} (Refused m) (Refused n) → m ≡ n
-same-number e = cc
 
 -- an answer that serves exactly what is so, and else is 13, is refused exactly where nothing is so, and by 13
 refuses : {A : Type 0} (a : Answer A) (is : A → Type 0) → ((x : A) → (a ≡ Served x) ↔ is x) → (((x : A) → a ≡ Served x → ⊥) → a ≡ Refused 13)

@@ -1,15 +1,26 @@
 -- Answers in a row: what is served has passed every test, and what is refused stays refused, whatever is answered in the end.
 use Prim.Native.Nat.{ℕ, _-_}
 use mathlib.Core.Bool.{Bool, true, false}
-use mathlib.Core.Path.{_≡_, refl, sym}
+use mathlib.Core.Logic.{_↔_, _⊎_, inl, inr, ⊎-elim}
+use mathlib.Core.Path.{_≡_, refl, sym, ap}
 use mathlib.Core.List.{List, append-nil}
 use native.Mathlib.Omega.{arith}
 use lib.ListN.{length, replicate}
+use Rattle.refusal.proofs.Tests.{fails}
 use Rattle.refusal.specs.Answer.{Answer, Served, Refused, _unless_, _then_, leftIn}
 
 -- no answer is both served and refused
 pub not-both : {A : Type 0} {n : ℕ} {x : A} → Refused n ≡ Served x → ⊥
 not-both {n = n} {x = x} e = let z : _≡_ {A = ℕ} 0 1 = cc in omega arith
+
+-- refused alike is refused by one number
+pub same-number : {A : Type 0} {m n : ℕ} → _≡_ {A = Answer A} (Refused m) (Refused n) → m ≡ n
+same-number e = cc
+
+-- what the notation comes to: refused by k exactly where the test fails and k is its number, or the test holds and the rest is refused by k
+pub unless-exactly : {A : Type 0} (n : ℕ) (t : Bool) (rest : Answer A) (k : ℕ) → ((n unless t then rest) ≡ Refused k) ↔ (((t ≡ false) × (n ≡ k)) ⊎ ((t ≡ true) × (rest ≡ Refused k)))
+unless-exactly n true rest k = (λ e. inr (refl, e), ⊎-elim (λ w. fails (sym (w .0))) (λ w. w .1))
+unless-exactly n false rest k = (λ e. inl (refl, same-number e), ⊎-elim (λ w. ap Refused (w .1)) (λ w. fails (w .0)))
 
 -- what is served passed the test, and the rest serves it
 pub passed : {A : Type 0} (n : ℕ) (t : Bool) (rest : Answer A) {x : A} → (n unless t then rest) ≡ Served x → (t ≡ true) × (rest ≡ Served x)

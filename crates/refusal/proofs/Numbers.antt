@@ -8,6 +8,7 @@ use Rattle.refusal.specs.declared.Refusal.{Refusal}
 use Rattle.refusal.specs.declared.Refusal.the-variants.{Height, CutShort, EmptyGroup, LeftOver, TooManyJoints, Directory, Place, Count, AnswerRoom, WorkRoom, TrailRoom, Cell, Measure, Kind, OutOfPlace, RecordCut, End, BitmapRoom, SheetLength, UnequalLists}
 use Rattle.refusal.specs.Numbers.{numberOf}
 use Rattle.refusal.specs.Answer.{Answer, Refused}
+use Rattle.refusal.proofs.Answers.{same-number}
 
 -- the refusals in the order of the table
 abbrev pub refusals : List Refusal
@@ -55,4 +56,4 @@ one-to-twenty = record {
 
 -- two answers that are refused alike are refused by the same refusal
 pub same-refusal : {A : Type 0} (r s : Refusal) → _≡_ {A = Answer A} (Refused (numberOf r)) (Refused (numberOf s)) → r ≡ s
-same-refusal r s e = one-to-twenty .distinct r s (let n : _ ≡ _ = cc in n)
+same-refusal r s e = one-to-twenty .distinct r s (same-number e)
