@@ -9,7 +9,7 @@ use lib.Dec.{leb, eqb}
 use borrow.Author.Tests.{le-leb, leb-true, eqb-true, eq-eqb}
 use Rattle.refusal.specs.Answer.{Served, Refused, _unless_, _then_}
 use Rattle.refusal.proofs.Tests.{both}
-use Rattle.measure.specs.Measure.{isDigit, isComma, isHalf, measure, hasForm, decimal, valueOf, readOf}
+use Rattle.measure.specs.Measure.{isDigit, isComma, isHalf, measure, hasForm, ofDigits, valueOf, readOf}
 use Rattle.measure.specs.Parts.{digitOf, halfOf}
 
 -- the digit x, written and read
@@ -136,7 +136,7 @@ measure-has t m =
 
 -- what a measure means, in those numbers
 pub measure-value : (t : List ℕ) → Measure t → valueOf t ≡ 2 * (100 * digitOf (getD t 0 0) + 10 * digitOf (getD t 1 0) + digitOf (getD t 2 0)) + halfOf (getD t 4 0)
-unfolding valueOf decimal
+unfolding valueOf ofDigits
 measure-value t m =
     let a = digit-written (getD t 0 0) (m .hundreds) in
     let b = digit-written (getD t 1 0) (m .tens) in
