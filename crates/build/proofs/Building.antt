@@ -17,7 +17,7 @@ use Rattle.order.specs.Once.{Left}
 use Rattle.board.specs.Limits.{maxHeight, maxJoints}
 use Rattle.board.specs.Levels.{Box, groups}
 use Rattle.board.specs.Code.{codeOf}
-use Rattle.board.proofs.Codes.{decode, code-decode, code-below}
+use Rattle.board.proofs.Codes.{in-below, decode, code-decode, code-below}
 use Rattle.board.proofs.Valid.{both}
 use Rattle.build.specs.declared.Built.{Built}
 use Rattle.build.specs.declared.Built.the-variants.{Board, Refused as Turned}
@@ -28,7 +28,7 @@ use Rattle.build.specs.Promise.{Kept}
 use Rattle.build.proofs.Pack.{length-pack}
 use Rattle.build.proofs.Fit.{fit-all}
 use Rattle.build.proofs.Coding.{length-cells}
-use Rattle.build.proofs.Bitmaps.{groups-of-bitmap, in-below}
+use Rattle.build.proofs.Bitmaps.{groups-of-bitmap}
 
 -- numbers below 4 ^ h are the codes of their cells
 pub codes-of-cells : (h : ℕ) (codes : List ℕ) → ((z : ℕ) → In z codes → z < 4 ^ h) → map (codeOf h) (map (decode h) codes) ≡ codes
