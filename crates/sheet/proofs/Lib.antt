@@ -6,5 +6,8 @@ pub mod Filling
 pub mod Reading
 pub mod Theorems
 pub mod Served
+pub mod Faults
 pub mod Refusals
+pub mod ExactlyRecords
+pub mod Exactly
 pub mod Determined

@@ -80,7 +80,7 @@ accepted-stand (suc n) stage h sheet at rs e =
         λ qs a same. rw (← same) (more r i k (rest qs a))
 
 -- a test that fails does not hold
-fails : {P : Type 0} → false ≡ true → P
+pub fails : {P : Type 0} → false ≡ true → P
 fails e = let z : _≡_ {A = ℕ} 0 1 = cc in absurd (omega arith)
 
 -- among the requests stands no joint
