@@ -45,16 +45,15 @@ module _ (sheet : List ℕ) (work room : ℕ) where
       ⊎ ((n ≡ 18) × (length (cellsIn rs) ≤ work) × (length (setOf (heightIn 0 rs) (cellsIn rs)) ≤ maxJoints) × (room < length (bitmapOf (heightIn 0 rs) (cellsIn rs))))))
   unfolding boardOf codesBuiltOf setOf bitmapOf
   board-tests rs n o e =
-      let said = three-tests (leb (length (cellsIn rs)) work) _ _ _ _ (λ x m p f. not-accepted (sym f)) n o e in
-      (
+      let said = three-tests (leb (length (cellsIn rs)) work) _ _ _ _ (λ x m p f. not-accepted (sym f)) n o e in (
         said .0,
         ⊎-elim
-        (λ w. inl (w .0, leb-false _ _ (w .1)))
-        (λ v. ⊎-elim
-        (λ w. inr (inl (w .0, leb-true _ _ (w .1), leb-false _ _ (w .2))))
-        (λ w. inr (inr (w .0, leb-true _ _ (w .1), leb-true _ _ (w .2), leb-false _ _ (w .3))))
-        v)
-        (said .1),
+            (λ w. inl (w .0, leb-false _ _ (w .1)))
+            (λ v. ⊎-elim
+            (λ w. inr (inl (w .0, leb-true _ _ (w .1), leb-false _ _ (w .2))))
+            (λ w. inr (inr (w .0, leb-true _ _ (w .1), leb-true _ _ (w .2), leb-false _ _ (w .3))))
+            v)
+            (said .1),
       )
 
   -- a sheet is refused by its records, or is accepted and refused by its board

@@ -14,6 +14,8 @@ use crate::codes::FIRST_JOINT;
 use crate::codes::JOINT_RECORD;
 use crate::scan::Scanned;
 use build::Built;
+use lent::clear_bytes;
+use lent::clear_words;
 use refusal::Refusal;
 
 mod codes;
@@ -61,8 +63,8 @@ fn build_joints(
 pub fn read(sheet: &[u8], work: &mut [u32], bitmap: &mut [u8]) -> Sheeted
     ensures { λ r. ⌜ Promise (now (sheet .entry)) (now (work .entry)) (now (bitmap .entry)) r (now (work .exit)) (now (bitmap .exit)) ⌝ }
 {
-    lent::clear_words(work);
-    lent::clear_bytes(bitmap);
+    clear_words(work);
+    clear_bytes(bitmap);
     match scan::scan(sheet) {
         Scanned::Sheet { height, joints } => {
             if work.len() < joints {
