@@ -1,5 +1,5 @@
-//! The benchmark: the proved library beside a plain safe Rust version of the same algorithms, in one run. Before anything is timed both sides must
-//! give the same bytes on every input. Exit status 1 where they do not; a ratio is printed, and never asserted.
+//! The benchmark: the proved library beside a plain safe Rust version of the same algorithms, in one run. Before a row is timed both sides must give
+//! the same bytes on its input. Exit status 1 where they do not; a ratio is printed, and never asserted.
 
 mod inputs;
 #[forbid(unsafe_code)]
@@ -19,9 +19,15 @@ use timing::{compare, Timing};
 const QUESTIONS: usize = 128;
 const BITMAP: usize = 8875;
 
-fn row(what: &str, on: &str, timing: &Timing, goal: f64) {
-    let over = if timing.ratio > goal { "  over the goal" } else { "" };
-    println!("{what:<34} {on:<24} {:>9.1} {:>9.1} {:>6.2} {goal:>5.1}{over}", timing.ours, timing.other, timing.ratio);
+/// Times both sides and prints the row, unless other rows are asked for on the command line.
+fn row(what: &str, on: &str, goal: Option<f64>, ours: &mut dyn FnMut(), other: &mut dyn FnMut()) {
+    if std::env::args().nth(1).is_some_and(|text| !format!("{what} {on}").contains(&text)) {
+        return;
+    }
+    let Timing { ours, other, ratio } = compare(ours, other);
+    let told = goal.map_or("none".to_string(), |goal| format!("{goal:.1}"));
+    let over = if goal.is_some_and(|goal| ratio > goal) { "  over the goal" } else { "" };
+    println!("{what:<34} {on:<24} {ours:>9.1} {other:>9.1} {ratio:>6.2} {told:>5}{over}");
 }
 
 fn must(same: bool, what: &str, on: &str) {
@@ -43,7 +49,10 @@ fn check(board: &Board) {
     let bytes = bitmap_of::<Plain>(board);
     let expected = Plain::check(HEIGHT, &bytes);
     must(expected.0 == 0 && Ours::check(HEIGHT, &bytes) == expected, "check", &board.name);
-    let timing = compare(
+    row(
+        "check",
+        &board.name,
+        Some(1.5),
         &mut || {
             black_box(Ours::check(black_box(HEIGHT), black_box(&bytes)));
         },
@@ -51,7 +60,6 @@ fn check(board: &Board) {
             black_box(Plain::check(black_box(HEIGHT), black_box(&bytes)));
         },
     );
-    row("check", &board.name, &timing, 1.5);
 }
 
 fn directory(board: &Board) {
@@ -63,7 +71,10 @@ fn directory(board: &Board) {
         "directory",
         &board.name,
     );
-    let timing = compare(
+    row(
+        "check and make the directory",
+        &board.name,
+        Some(1.5),
         &mut || {
             black_box(Ours::directory(black_box(HEIGHT), black_box(&bytes), ours));
         },
@@ -71,7 +82,6 @@ fn directory(board: &Board) {
             black_box(Plain::directory(black_box(HEIGHT), black_box(&bytes), plain));
         },
     );
-    row("check and make the directory", &board.name, &timing, 1.5);
 }
 
 fn build_sheet(board: &Board) {
@@ -79,7 +89,10 @@ fn build_sheet(board: &Board) {
     let (mut ours, mut plain) = (vec![1; BITMAP], vec![2; BITMAP]);
     let expected = Plain::build_sheet(&sheet, &mut plain);
     must(expected.0 == 0 && Ours::build_sheet(&sheet, &mut ours) == expected && ours == plain, "build from a sheet", &board.name);
-    let timing = compare(
+    row(
+        "build from a sheet",
+        &board.name,
+        Some(1.5),
         &mut || {
             black_box(Ours::build_sheet(black_box(&sheet), &mut ours));
         },
@@ -87,7 +100,6 @@ fn build_sheet(board: &Board) {
             black_box(Plain::build_sheet(black_box(&sheet), &mut plain));
         },
     );
-    row("build from a sheet", &board.name, &timing, 1.5);
 }
 
 /// Building from lists of rows and columns: the goal of issue 4 is twice the plain version.
@@ -101,7 +113,10 @@ fn build_cells(board: &Board) {
     let expected = Plain::build(HEIGHT, &rows, &columns, plain_work, plain);
     let same = Ours::build(HEIGHT, &rows, &columns, our_work, ours) == expected && ours == plain && our_work == plain_work;
     must(expected.0 == 0 && same, "build from cells", &board.name);
-    let timing = compare(
+    row(
+        "build from shuffled cells",
+        &board.name,
+        Some(2.0),
         &mut || {
             black_box(Ours::build(black_box(HEIGHT), black_box(&rows), black_box(&columns), our_work, ours));
         },
@@ -109,7 +124,6 @@ fn build_cells(board: &Board) {
             black_box(Plain::build(black_box(HEIGHT), black_box(&rows), black_box(&columns), plain_work, plain));
         },
     );
-    row("build from shuffled cells", &board.name, &timing, 2.0);
 }
 
 /// Sorting alone, beside the same heap sort, and beside the standard library's sort, which is another algorithm.
@@ -125,17 +139,16 @@ fn sort(board: &Board) {
         ours.copy_from_slice(&codes);
         Ours::sort(black_box(&mut ours));
     };
-    let timing = compare(&mut sort_ours, &mut || {
+    let mut sort_plain = || {
         other.copy_from_slice(&codes);
         Plain::sort(black_box(&mut other));
-    });
-    row("sort codes, heap sort", &board.name, &timing, 1.5);
-    let timing = compare(&mut sort_ours, &mut || {
+    };
+    row("sort codes, heap sort", &board.name, Some(1.5), &mut sort_ours, &mut sort_plain);
+    let mut sort_unstable = || {
         other.copy_from_slice(&codes);
         black_box(&mut other).sort_unstable();
-    });
-    let Timing { ours, other, ratio } = timing;
-    println!("{:<34} {:<24} {ours:>9.1} {other:>9.1} {ratio:>6.2}  none", "the same, beside sort_unstable", board.name);
+    };
+    row("the same, beside sort_unstable", &board.name, None, &mut sort_ours, &mut sort_unstable);
 }
 
 fn whole<S: Side>(sheet: &[u8], room: &mut Room) -> Vec<u8> {
@@ -155,11 +168,13 @@ fn whole_report(what: &str, board: &Board, asked: &[Vec<u8>]) {
         by(black_box(&sheet), room, &mut length);
         black_box(length);
     };
-    let timing = compare(
+    row(
+        what,
+        &board.name,
+        Some(1.5),
         &mut || count(&mut ours, |sheet, room, length| report::<Ours>(sheet, room, |chunk| *length += chunk.len())),
         &mut || count(&mut plain, |sheet, room, length| report::<Plain>(sheet, room, |chunk| *length += chunk.len())),
     );
-    row(what, &board.name, &timing, 1.5);
 }
 
 fn main() {
@@ -185,7 +200,10 @@ fn main() {
         whole_report(&format!("report of {QUESTIONS} windows"), board, &inputs::windows(QUESTIONS, 6));
     }
     println!();
-    println!("{:<24} {:>12} {:>12} {:>16} {:>16}", "bytes, for each joint", "bitmap", "directory", "bitmap, each", "directory, each");
+    println!(
+        "{:<24} {:>12} {:>12} {:>16} {:>16}",
+        "bytes, for each joint", "bitmap", "directory", "bitmap, each", "directory, each"
+    );
     for board in &boards {
         let bytes = bitmap_of::<Ours>(board).len();
         let directory = 2 * blocks_of(bytes);

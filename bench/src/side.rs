@@ -2,7 +2,6 @@
 
 use crate::plain;
 
-
 /// What the first line of a report tells: the height, the bitmap's length, the offset after the joints, and the line's length.
 #[derive(Clone, Copy, Debug, PartialEq, Eq)]
 pub struct First {
