@@ -23,7 +23,7 @@ use Rattle.board.proofs.Tests.{cell-test}
 use Rattle.board.proofs.Valid.{both, valid-served}
 use Rattle.board.proofs.Bounds.{groups-at-most}
 use Rattle.build.specs.Answers.{allOn}
-use Rattle.build.specs.Build.{onceEach, setOf, bitmapOfCodes, bitmapOf}
+use Rattle.build.specs.Build.{setOf, bitmapOfCodes, bitmapOf}
 use Rattle.build.proofs.Bitmaps.{bitmap-of-joints, bitmap-valid, bitmap-bytes, codes-of-bitmap, joints-of-bitmap, length-joints-of-bitmap}
 use Rattle.build.proofs.Building.{codes-of-cells}
 
@@ -92,8 +92,3 @@ built-fits h cells low high few = groups-at-most h (bitmapOf h cells) (bitmap-va
 pub codes-as-cells : (h : ℕ) (codes : List ℕ) → ((z : ℕ) → In z codes → z < 4 ^ h) → bitmapOfCodes h codes ≡ bitmapOf h (map (decode h) codes)
 unfolding bitmapOf
 codes-as-cells h codes small = rw (codes-of-cells h codes small)
-
--- the same for 8,875 bytes
-pub codes-fit : (h : ℕ) (codes : List ℕ) → 1 ≤ h → h ≤ maxHeight → ((z : ℕ) → In z codes → z < 4 ^ h) → length (onceEach codes) ≤ maxJoints → length (bitmapOfCodes h codes) ≤ 8875
-codes-fit h codes low high small few =
-    rw (codes-as-cells h codes small) (built-fits h (map (decode h) codes) low high (unfold setOf in rw (codes-of-cells h codes small) few))
