@@ -22,7 +22,7 @@ pub enum Checked {
 }
 
 // What is wrong with a group, if anything is.
-pub enum Fault {
+enum Fault {
     Nothing,
     Found(Refusal),
 }

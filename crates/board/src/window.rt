@@ -27,23 +27,23 @@ pub enum Windowed {
 }
 
 // Rows, or columns, from one up to another that is no longer among them.
-pub struct Span {
-    pub from: u32,
-    pub past: u32,
+struct Span {
+    from: u32,
+    past: u32,
 }
 
 // The cells of a span of rows and a span of columns.
-pub struct Pane {
-    pub rows: Span,
-    pub columns: Span,
+struct Pane {
+    rows: Span,
+    columns: Span,
 }
 
 // A box by the levels left under it, its group, and its row and column among the boxes of its level; with no level left it is a cell.
-pub struct Spot {
-    pub left: u32,
-    pub group: GroupNo,
-    pub row: u32,
-    pub column: u32,
+struct Spot {
+    left: u32,
+    group: GroupNo,
+    row: u32,
+    column: u32,
 }
 
 // Whether a box has a row, or a column, in a span. With so many levels left under it, it is number `at` in a row of such boxes.
