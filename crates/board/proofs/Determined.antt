@@ -3,7 +3,7 @@ use Prim.Native.Nat.{ℕ}
 use mathlib.Core.Path.{_≡_, refl, sym, ap, _∙_}
 use native.Mathlib.Omega.{arith}
 use Rattle.promise.specs.Determines.{Determines}
-use Rattle.refusal.proofs.Numbers.{one-to-twenty}
+use Rattle.refusal.proofs.Numbers.{same-refusal}
 use Rattle.refusal.proofs.Answers.{not-both}
 use Rattle.board.specs.declared.check.Checked.{Checked}
 use Rattle.board.specs.declared.check.Checked.the-variants.{Board, Refused as NotChecked}
@@ -35,7 +35,7 @@ pub checks-alike : (r s : Checked) → numbersOf r ≡ numbersOf s → r ≡ s
 checks-alike (Board j g) (Board j′ g′) e = cc
 checks-alike (Board j g) (NotChecked b) e = absurd (not-both (sym e))
 checks-alike (NotChecked a) (Board j g) e = absurd (not-both e)
-checks-alike (NotChecked a) (NotChecked b) e = ap NotChecked (one-to-twenty .distinct a b cc)
+checks-alike (NotChecked a) (NotChecked b) e = ap NotChecked (same-refusal a b e)
 
 pub members-alike : (r s : Membership) → memberNumbers r ≡ memberNumbers s → r ≡ s
 members-alike Stored Stored e = refl
@@ -46,13 +46,13 @@ members-alike Absent Absent e = refl
 members-alike Absent (NotMember b) e = absurd (not-both (sym e))
 members-alike (NotMember a) Stored e = absurd (not-both e)
 members-alike (NotMember a) Absent e = absurd (not-both e)
-members-alike (NotMember a) (NotMember b) e = ap NotMember (one-to-twenty .distinct a b cc)
+members-alike (NotMember a) (NotMember b) e = ap NotMember (same-refusal a b e)
 
 pub windows-alike : (r s : Windowed) → windowNumbers r ≡ windowNumbers s → r ≡ s
 windows-alike (Cells n) (Cells m) e = cc
 windows-alike (Cells n) (NotShown b) e = absurd (not-both (sym e))
 windows-alike (NotShown a) (Cells n) e = absurd (not-both e)
-windows-alike (NotShown a) (NotShown b) e = ap NotShown (one-to-twenty .distinct a b cc)
+windows-alike (NotShown a) (NotShown b) e = ap NotShown (same-refusal a b e)
 
 -- ---- the entries
 

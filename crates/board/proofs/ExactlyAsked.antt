@@ -16,7 +16,7 @@ use Rattle.bitmap.proofs.Directory.{length-directory, alike-same, alike-true, a
 use Rattle.board.specs.Check.{checkOf}
 use Rattle.board.specs.Ready.{madeOf}
 use Rattle.board.specs.Member.{onBoard, stored, memberOf}
-use Rattle.board.specs.Window.{Window, endsFit, found, roomed, windowOf}
+use Rattle.board.specs.Window.{Window, endsFit, windowFits, found, roomed, windowOf}
 use Rattle.board.specs.Table.{WrongLength, WrongEntry, CellOn, WindowOn, Serves}
 use Rattle.board.proofs.Valid.{both}
 use Rattle.board.proofs.Tests.{no-path, not-passed, cell-test}
@@ -132,13 +132,9 @@ module _ (h : ℕ) (bytes d : List ℕ) (r c : ℕ) where
 -- ---- the window
 
 module _ (h : ℕ) (bytes d : List ℕ) (w : Window) (rows columns : ℕ) where
-  -- whether it is on the board
-  abbrev fits : Bool
-  fits = endsFit h (w .top) (w .bottom) && endsFit h (w .left) (w .right)
-
   -- what is asked of it
   abbrev window-rest : Answer ℕ
-  window-rest = 12 unless fits then roomed (length (found w h bytes)) rows columns
+  window-rest = 12 unless windowFits h w then roomed (length (found w h bytes)) rows columns
 
   -- both lists have the room
   abbrev room : Bool
@@ -149,9 +145,9 @@ module _ (h : ℕ) (bytes d : List ℕ) (w : Window) (rows columns : ℕ) where
   roomed-never k n e = not-both (sym (past-test 9 k room _ (ne-eqb 9 k n) e .1))
 
   window-never : (k : ℕ) → k < 9 → window-rest ≡ Refused k → ⊥
-  window-never k l e = roomed-never k (omega arith) (past-test 12 k fits _ (ne-eqb 12 k (omega arith)) e .1)
+  window-never k l e = roomed-never k (omega arith) (past-test 12 k (windowFits h w) _ (ne-eqb 12 k (omega arith)) e .1)
 
-  window-on : (fits ≡ true) ↔ WindowOn h w
+  window-on : (windowFits h w ≡ true) ↔ WindowOn h w
   unfolding endsFit
   window-on = (on, λ o. rw (lt-ltb (w .top) (2 ^ h) (o .0 .0), lt-ltb (w .bottom) (2 ^ h) (o .1 .0), le-leb (w .top) (w .bottom) (o .2), lt-ltb (w .left) (2 ^ h) (o .0 .1), lt-ltb (w .right) (2 ^ h) (o .1 .1), le-leb (w .left) (w .right) (o .3)))
     where
@@ -161,7 +157,7 @@ module _ (h : ℕ) (bytes d : List ℕ) (w : Window) (rows columns : ℕ) where
           let s = both (ltb lowest (2 ^ h)) (ltb highest (2 ^ h)) (t .0) in
           (ltb-true lowest (2 ^ h) (s .0), ltb-true highest (2 ^ h) (s .1), leb-true lowest highest (t .1))
 
-      on : fits ≡ true → WindowOn h w
+      on : windowFits h w ≡ true → WindowOn h w
       on e =
           let t = both (endsFit h (w .top) (w .bottom)) (endsFit h (w .left) (w .right)) e in
           let rs = ends-on (w .top) (w .bottom) (t .0) in
@@ -181,9 +177,9 @@ module _ (h : ℕ) (bytes d : List ℕ) (w : Window) (rows columns : ℕ) where
   pub window-12 : (windowOf h bytes d w rows columns ≡ Refused 12) ↔ (Serves (checkOf h bytes) × (d ≡ directoryOf bytes) × (WindowOn h w → ⊥))
   unfolding windowOf
   window-12 =
-      let on = not-passed fits window-on in
+      let on = not-passed (windowFits h w) window-on in
       let asked = after-six h bytes d window-rest 12 (omega arith) in
-      ((λ e. let s = asked .0 e in (s .0, s .1, on .0 (by-test 12 fits _ (roomed-never 12 (omega arith)) (s .2)))), λ s. asked .1 (s .0, s .1, rw (on .1 (s .2))))
+      ((λ e. let s = asked .0 e in (s .0, s .1, on .0 (by-test 12 (windowFits h w) _ (roomed-never 12 (omega arith)) (s .2)))), λ s. asked .1 (s .0, s .1, rw (on .1 (s .2))))
 
   -- 9: a list is shorter than the cells found
   pub window-9 : (windowOf h bytes d w rows columns ≡ Refused 9)
@@ -202,5 +198,5 @@ module _ (h : ℕ) (bytes d : List ℕ) (w : Window) (rows columns : ℕ) where
           → Serves (checkOf h bytes) × (d ≡ directoryOf bytes) × WindowOn h w × ((rows < length (found w h bytes)) ⊎ (columns < length (found w h bytes)))
       refused e =
           let s = after-six h bytes d window-rest 9 (omega arith) .0 e in
-          let t = past-test 12 9 fits _ refl (s .2) in
+          let t = past-test 12 9 (windowFits h w) _ refl (s .2) in
           (s .0, s .1, window-on .0 (t .0), room-short (by-test 9 room (Served (length (found w h bytes))) (λ f. not-both (sym f)) (t .1)))

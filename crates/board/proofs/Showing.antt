@@ -25,7 +25,7 @@ use Rattle.board.specs.Limits.{maxHeight, maxJoints}
 use Rattle.board.specs.Levels.{Box, joints}
 use Rattle.board.specs.Check.{checkOf}
 use Rattle.board.specs.Ready.{Ready, askedOf}
-use Rattle.board.specs.Window.{Window, inside, found, endsFit, roomed, windowOf, windowNumbers, rowOf, columnOf, Shown}
+use Rattle.board.specs.Window.{Window, inside, found, endsFit, windowFits, roomed, windowOf, windowNumbers, rowOf, columnOf, Shown}
 use Rattle.board.specs.Span.{within, raised}
 use Rattle.board.specs.Listing.{Listed, underSpot, Stood}
 use Rattle.board.proofs.Rank.{stands-root}
@@ -176,7 +176,7 @@ window-stays h bytes d w rows columns e = stays (checkOf h bytes) 6 (alike d (di
 
 module _ (h : ℕ) (bytes d : List ℕ) (w : Window) (rows columns : ℕ) {x : List ℕ} (e : askedOf h bytes d ≡ Served x) where
   -- ends that do not fit are refused by 12
-  pub window-off : endsFit h (w .top) (w .bottom) && endsFit h (w .left) (w .right) ≡ false → windowOf h bytes d w rows columns ≡ Refused 12
+  pub window-off : windowFits h w ≡ false → windowOf h bytes d w rows columns ≡ Refused 12
   unfolding askedOf windowOf
   window-off f = goes-on (checkOf h bytes) 6 (alike d (directoryOf bytes)) _ e ∙ rw f
 

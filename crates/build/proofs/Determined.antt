@@ -1,7 +1,7 @@
 -- Each promise determines its call.
 use mathlib.Core.Path.{_≡_, refl, sym, ap, _∙_}
 use Rattle.promise.specs.Determines.{Determines}
-use Rattle.refusal.proofs.Numbers.{one-to-twenty}
+use Rattle.refusal.proofs.Numbers.{same-refusal}
 use Rattle.refusal.proofs.Answers.{not-both}
 use Rattle.build.specs.declared.Built.{Built}
 use Rattle.build.specs.declared.Built.the-variants.{Board, Refused as NotBuilt}
@@ -18,7 +18,7 @@ pub builds-alike : (r s : Built) → builtNumbers r ≡ builtNumbers s → r ≡
 builds-alike (Board j g l) (Board j′ g′ l′) e = cc
 builds-alike (Board j g l) (NotBuilt b) e = absurd (not-both (sym e))
 builds-alike (NotBuilt a) (Board j g l) e = absurd (not-both e)
-builds-alike (NotBuilt a) (NotBuilt b) e = ap NotBuilt (one-to-twenty .distinct a b cc)
+builds-alike (NotBuilt a) (NotBuilt b) e = ap NotBuilt (same-refusal a b e)
 
 pub build-determined : Determines build-fn.ended build.Asked build.Learnt
 build-determined κs a asked x y left other p q =
