@@ -1,14 +1,14 @@
 -- One record: its kind by its byte, and the tests in their order.
 use Prim.Native.Nat.{ℕ, _+_, _-_, _≤_, _<_}
 use mathlib.Core.Bool.{Bool, true, false, cond, _&&_}
-use mathlib.Core.Path.{_≡_, refl}
+use mathlib.Core.Path.{_≡_, refl, ap, _∙_}
 use mathlib.Core.List.{List}
 use native.Mathlib.Omega.{arith}
 use lib.ListN.{length, getD, take, drop, length-drop}
 use lib.Seq.{take-all}
 use lib.Dec.{leb, eqb}
 use borrow.Author.Tests.{le-leb, lt-leb}
-use Rattle.refusal.specs.Answer.{Answer, Served, Refused, _into_}
+use Rattle.refusal.specs.Answer.{Answer, Served, Refused, _unless_, _then_, _into_}
 use Rattle.refusal.proofs.Answers.{not-both, passed}
 use Rattle.board.specs.Limits.{maxHeight}
 use Rattle.board.specs.Member.{onBoard}
@@ -19,7 +19,7 @@ use Rattle.sheet.specs.declared.kind.Known.the-variants.{Body, Nothing}
 use Rattle.sheet.specs.declared.record.Record.{Record}
 use Rattle.sheet.specs.declared.record.Record.the-variants.{Board as BoardOf, Joint as JointAt, Question as Ask, Window as Within, End as Ended}
 use Rattle.sheet.specs.Kinds.{kindOf, knownOf, bodyLength, inPlace}
-use Rattle.sheet.specs.Records.{measureAt, markedAt, bodyOf, recordAt, kindIn, withNext}
+use Rattle.sheet.specs.Records.{measureAt, markedAt, pairAt, bodyOf, recordAt, kindIn, withNext}
 
 -- what is served in the end was served at first
 pub went-into : {A B : Type 0} {P : Type 0} (a : Answer A) (f : A → Answer B) {y : B} → (a into f) ≡ Served y → ((x : A) → a ≡ Served x → f x ≡ Served y → P) → P
@@ -70,6 +70,23 @@ module _ (stage : Stage) (h : ℕ) (sheet : List ℕ) (at : ℕ) where
   pub by-body : (kind : Kind) → kindOf (getD sheet at 0) ≡ Served kind → inPlace stage kind ≡ true → at + 1 + bodyLength kind ≤ length sheet → recordAt stage h sheet at ≡ bodyOf h kind (drop (at + 1) sheet)
   unfolding recordAt
   by-body kind e p long = rw (e, p, le-leb (at + 1 + bodyLength kind) (length sheet) long)
+
+-- two measures in a row, as a pair
+as-pair : {A : Type 0} (a b : Answer ℕ) (f : ℕ → ℕ → Answer A) → (a into λ x. b into λ y. f x y) ≡ (_into_ {A = ℕ × ℕ} (a into λ x. b into λ y. Served (x, y)) (λ p. f (p .0) (p .1)))
+as-pair (Served x) (Served y) f = refl
+as-pair (Served x) (Refused n) f = refl
+as-pair (Refused n) b f = refl
+
+-- a joint by its pair, and a window by its two
+pub joint-by-pair : (h : ℕ) (body : List ℕ) → bodyOf h Joint body ≡ (pairAt body 0 into λ cell. 12 unless onBoard h (cell .0) (cell .1) then Served (JointAt (cell .0) (cell .1)))
+unfolding bodyOf
+joint-by-pair h body = as-pair (measureAt body 0) (measureAt body 5) (λ row column. 12 unless onBoard h row column then Served (JointAt row column))
+
+pub window-by-pairs : (h : ℕ) (body : List ℕ) → bodyOf h Window body ≡ (pairAt body 0 into λ rows. pairAt body 10 into λ columns. Served (Within (rows .0) (rows .1) (columns .0) (columns .1)))
+unfolding bodyOf
+window-by-pairs h body =
+    ap (λ (f : ℕ → ℕ → Answer Record). measureAt body 0 into λ a. measureAt body 5 into λ b. f a b) (λ i a b. as-pair (measureAt body 10) (measureAt body 15) (λ c d. Served (Within a b c d)) i)
+    ∙ as-pair (measureAt body 0) (measureAt body 5) (λ a b. pairAt body 10 into λ columns. Served (Within a b (columns .0) (columns .1)))
 
 -- what a body of a kind says is a record of that kind
 pub kind-of-body : (h : ℕ) (kind : Kind) (body : List ℕ) (r : Record) → bodyOf h kind body ≡ Served r → kindIn r ≡ kind

@@ -42,7 +42,7 @@ pub was-served : {A : Type 0} (at : ℕ) (a : Answer A) (x : A) → offset at a 
 was-served at (Served y) x e = let same : y ≡ x = cc in rw same
 was-served at (Refused n) x e = not-accepted e
 
-was-passed : (at n : ℕ) (t : Bool) (x : Bool) → offset at (n unless t) ≡ Accepted x → t ≡ true
+pub was-passed : (at n : ℕ) (t : Bool) (x : Bool) → offset at (n unless t) ≡ Accepted x → t ≡ true
 was-passed at n true x e = refl
 was-passed at n false x e = not-accepted e
 
@@ -193,23 +193,3 @@ unfolding sheetOf
 sheet-shape sheet rs e =
     went-onward (offset 0 (19 unless leb (length sheet) maxSheet)) _ e λ t k f.
     shape sheet (leb-true (length sheet) maxSheet (was-passed 0 19 (leb (length sheet) maxSheet) t k)) (accepted-stand (length sheet) Start 0 sheet 0 rs f)
-
--- a report goes from request to request: the first of the records that stand at a place is read there
-pub stand-first : (sheet : List ℕ) {stage : Stage} {h at : ℕ} {r : Record} {rs : List Record} → Stand sheet stage h at (r ∷ rs) → recordAt stage h sheet at ≡ Served r
-stand-first sheet (last e f) = e
-stand-first sheet (more r go e rest) = e
-
--- the requests after one that is not the end stand at the next offset
-pub stand-next : (sheet : List ℕ) {h at : ℕ} {r : Record} {rs : List Record} → Stand sheet Requests h at (r ∷ rs) → isEnd r ≡ false → Stand sheet Requests h (nextAfter at r) rs
-unfolding kindIn heightAfter
-stand-next sheet (last e f) go = fails (sym go)
-stand-next sheet (more {h = h} {at = at} (Board k) i e rest) go = fails (read-as Requests h sheet at (Board k) e .stands)
-stand-next sheet (more {h = h} {at = at} (Joint r c) i e rest) go = fails (read-as Requests h sheet at (Joint r c) e .stands)
-stand-next sheet (more (Question k r c) i e rest) go = rest
-stand-next sheet (more (Window a b c d) i e rest) go = rest
-stand-next sheet (more End i e rest) go = fails (sym i)
-
--- and none stands after the end
-pub stand-end : (sheet : List ℕ) {h at : ℕ} {rs : List Record} → Stand sheet Requests h at (End ∷ rs) → rs ≡ []
-stand-end sheet (last e f) = refl
-stand-end sheet (more End i e rest) = fails (sym i)

@@ -21,11 +21,6 @@ use Rattle.sheet.specs.Sheet.{Accepted, RefusedAt, maxSheet, maxRecords,
 use Rattle.sheet.specs.Promise.{sheetedOf, boardOf, readOf, bitmapIn, Promise}
 use Rattle.sheet.proofs.Shape.{sheet-shape, not-accepted}
 
--- a sheet of 65,537 bytes or more is 19 whatever it holds
-pub too-long : (sheet : List ℕ) (work room : ℕ) → 65537 ≤ length sheet → readOf sheet work room ≡ RefusedAt 19 0
-unfolding readOf sheetOf maxSheet
-too-long sheet work room long = rw (lt-leb (length sheet) 65536 (omega arith))
-
 module _ (sheet : List ℕ) (rs : List Record) (e : sheetOf sheet ≡ Accepted rs) where
   -- an accepted sheet has at most 5,957 joint records
   pub joint-records : length (cellsIn rs) ≤ maxRecords

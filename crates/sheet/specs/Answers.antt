@@ -5,8 +5,15 @@ use Rattle.refusal.specs.Answer.{Answer, Served, Refused}
 use Rattle.sheet.specs.declared.record.Record.{Record}
 use Rattle.sheet.specs.declared.record.Said.{Said}
 use Rattle.sheet.specs.declared.record.Said.the-variants.{Record as Told, Refused as NotTold}
+use Rattle.sheet.specs.declared.record.Pair.{Pair}
+use Rattle.sheet.specs.declared.record.Pair.the-variants.{Measures, Refused as NoPair}
 use Rattle.sheet.specs.declared.record.Recorded.{Recorded}
 use Rattle.sheet.specs.declared.record.Recorded.the-variants.{Record as Read, Refused as NotRead}
+
+-- two measures
+abbrev pub pairOf : Pair → Answer (ℕ × ℕ)
+pairOf (Measures first second) = Served (first, second)
+pairOf (NoPair n) = Refused (numberOf n)
 
 -- what a body says
 abbrev pub saidOf : Said → Answer Record

@@ -23,6 +23,10 @@ measureAt body at = readOf (take 5 (drop at body))
 abbrev pub markedAt : List ℕ → ℕ → Answer ℤ
 markedAt body at = readMarkedOf (take 6 (drop at body))
 
+-- two measures, one after the other
+abbrev pub pairAt : List ℕ → ℕ → Answer (ℕ × ℕ)
+pairAt body at = measureAt body at into λ first. measureAt body (at + 5) into λ second. Served (first, second)
+
 -- what a body says, on a board of height h: 1, or 13 from the left, and for a joint 12
 unfoldable pub bodyOf : ℕ → Kind → List ℕ → Answer Record
 bodyOf h Board body = 1 unless (leb 1 (getD body 0 0) && leb (getD body 0 0) maxHeight) then Served (BoardOf (getD body 0 0))

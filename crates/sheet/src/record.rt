@@ -4,8 +4,8 @@ ghost use Prim.Native.Nat.{_+_, _≤_, _<_};
 ghost use lib.ListN.{length};
 ghost use Rattle.board.specs.Limits.{maxHeight};
 ghost use Rattle.sheet.specs.Kinds.{bodyLength};
-ghost use Rattle.sheet.specs.Records.{measureAt, markedAt, bodyOf, recordAt, withNext};
-ghost use Rattle.sheet.specs.Answers.{saidOf, recordedOf};
+ghost use Rattle.sheet.specs.Records.{measureAt, markedAt, pairAt, bodyOf, recordAt, withNext};
+ghost use Rattle.sheet.specs.Answers.{pairOf, saidOf, recordedOf};
 ghost use Rattle.measure.specs.Answers.{readingOf, markedOf};
 use crate::kind::Kind;
 use crate::kind::Known;
@@ -41,6 +41,12 @@ pub enum Record {
 // What a body says.
 pub(crate) enum Said {
     Record(Record),
+    Refused(Refusal),
+}
+
+// Two measures of a body.
+pub(crate) enum Pair {
+    Measures { first: u32, second: u32 },
     Refused(Refusal),
 }
 
@@ -83,23 +89,39 @@ fn board_body(body: &[u8]) -> Said
     Said::Record(Record::Board { height })
 }
 
+// The two measures from a place of a body on; the first that is none is the answer.
+fn pair_at(body: &[u8], at: usize) -> Pair
+    requires { ⌜ at + 10 ≤ length (now body) ⌝ }
+    ensures { λ r. ⌜ pairOf r ≡ pairAt (now (body .entry)) at ⌝ }
+{
+    let first = match measure_at(body, at) {
+        Reading::Value(n) => n,
+        Reading::Refused(refusal) => return Pair::Refused(refusal),
+    };
+    let second = match measure_at(body, at + measure::MEASURE_LENGTH) {
+        Reading::Value(n) => n,
+        Reading::Refused(refusal) => return Pair::Refused(refusal),
+    };
+    Pair::Measures { first, second }
+}
+
 // What the body of a joint record says, on a board of a height.
 fn joint_body(height: u32, body: &[u8]) -> Said
     requires { ⌜ (height < 32) × (10 ≤ length (now body)) ⌝ }
     ensures { λ r. ⌜ saidOf r ≡ bodyOf height Kind.Joint (now (body .entry)) ⌝ }
 {
-    let row = match measure_at(body, 0) {
-        Reading::Value(n) => n,
-        Reading::Refused(refusal) => return Said::Refused(refusal),
-    };
-    let column = match measure_at(body, 5) {
-        Reading::Value(n) => n,
-        Reading::Refused(refusal) => return Said::Refused(refusal),
-    };
-    if !board::member::on_board(height, row, column) {
-        return Said::Refused(Refusal::Cell);
+    match pair_at(body, 0) {
+        Pair::Measures {
+            first: row,
+            second: column,
+        } => {
+            if !board::member::on_board(height, row, column) {
+                return Said::Refused(Refusal::Cell);
+            }
+            Said::Record(Record::Joint { row, column })
+        }
+        Pair::Refused(refusal) => Said::Refused(refusal),
     }
-    Said::Record(Record::Joint { row, column })
 }
 
 // What the body of a question says.
@@ -124,28 +146,24 @@ fn window_body(body: &[u8]) -> Said
     requires { ⌜ 20 ≤ length (now body) ⌝ }
     ensures { λ r. ⌜ saidOf r ≡ bodyOf 0 Kind.Window (now (body .entry)) ⌝ }
 {
-    let lowest_row = match measure_at(body, 0) {
-        Reading::Value(n) => n,
-        Reading::Refused(refusal) => return Said::Refused(refusal),
-    };
-    let highest_row = match measure_at(body, 5) {
-        Reading::Value(n) => n,
-        Reading::Refused(refusal) => return Said::Refused(refusal),
-    };
-    let lowest_column = match measure_at(body, 10) {
-        Reading::Value(n) => n,
-        Reading::Refused(refusal) => return Said::Refused(refusal),
-    };
-    let highest_column = match measure_at(body, 15) {
-        Reading::Value(n) => n,
-        Reading::Refused(refusal) => return Said::Refused(refusal),
-    };
-    Said::Record(Record::Window {
-        lowest_row,
-        highest_row,
-        lowest_column,
-        highest_column,
-    })
+    match pair_at(body, 0) {
+        Pair::Measures {
+            first: lowest_row,
+            second: highest_row,
+        } => match pair_at(body, 10) {
+            Pair::Measures {
+                first: lowest_column,
+                second: highest_column,
+            } => Said::Record(Record::Window {
+                lowest_row,
+                highest_row,
+                lowest_column,
+                highest_column,
+            }),
+            Pair::Refused(refusal) => Said::Refused(refusal),
+        },
+        Pair::Refused(refusal) => Said::Refused(refusal),
+    }
 }
 
 // What a body of a kind says, on a board of a height.
