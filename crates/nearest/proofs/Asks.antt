@@ -38,7 +38,7 @@ same-served : {A : Type 0} {x y : A} → Served x ≡ Served y → y ≡ x
 same-served {x = x} {y = y} e = cc
 
 -- the check serves the joints and the groups
-check-serves : (h : ℕ) (bytes : List ℕ) {x : List ℕ} → checkOf h bytes ≡ Served x → x ≡ length (joints h bytes) ∷ groups h bytes ∷ []
+pub check-serves : (h : ℕ) (bytes : List ℕ) {x : List ℕ} → checkOf h bytes ≡ Served x → x ≡ length (joints h bytes) ∷ groups h bytes ∷ []
 unfolding checkOf
 check-serves h bytes e =
     let one = passed 1 (leb 1 h && leb h maxHeight) _ e in
