@@ -19,9 +19,14 @@ use timing::{compare, Timing};
 const QUESTIONS: usize = 128;
 const BITMAP: usize = 8875;
 
-/// Times both sides and prints the row, unless other rows are asked for on the command line.
+/// Whether a row is asked for: all are, unless the command line has a text for them.
+fn is_asked_for(what: &str, on: &str) -> bool {
+    std::env::args().nth(1).map_or(true, |text| format!("{what} {on}").contains(&text))
+}
+
+/// Times both sides and prints the row.
 fn row(what: &str, on: &str, goal: Option<f64>, ours: &mut dyn FnMut(), other: &mut dyn FnMut()) {
-    if std::env::args().nth(1).is_some_and(|text| !format!("{what} {on}").contains(&text)) {
+    if !is_asked_for(what, on) {
         return;
     }
     let Timing { ours, other, ratio } = compare(ours, other);
@@ -158,6 +163,9 @@ fn whole<S: Side>(sheet: &[u8], room: &mut Room) -> Vec<u8> {
 }
 
 fn whole_report(what: &str, board: &Board, asked: &[Vec<u8>]) {
+    if !is_asked_for(what, &board.name) {
+        return;
+    }
     let sheet = inputs::sheet(&board.joints, asked);
     let (mut ours, mut plain) = (Room::new(), Room::new());
     let expected = whole::<Plain>(&sheet, &mut plain);
