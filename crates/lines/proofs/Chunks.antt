@@ -1,6 +1,5 @@
 -- The records of a report one after the other: each read brings the next place on, and what the places say is the report.
 use Prim.Native.Nat.{ℕ, zero, suc, _+_, _≤_, _<_}
-use mathlib.Core.Bool.{true, false}
 use mathlib.Core.Path.{_≡_, refl, ap, sym, _∙_}
 use mathlib.Core.List.{List, [], _∷_, _++_, flatMap}
 use native.Mathlib.Omega.{arith}
@@ -15,7 +14,7 @@ use Rattle.sheet.specs.Records.{recordAt, kindIn, nextAfter}
 use Rattle.sheet.specs.Sheet.{Accepted, maxRecords, maxBytes, sheetOf, heightAfter, heightIn, afterJoints}
 use Rattle.sheet.specs.Promise.{readOf, bitmapIn}
 use Rattle.sheet.proofs.Scanning.{read-as}
-use Rattle.sheet.proofs.Shape.{Stand, last, more, sheet-shape}
+use Rattle.sheet.proofs.Shape.{Stand, last, more, fails, sheet-shape}
 use Rattle.lines.specs.Text.{bytesOf, textOf}
 use Rattle.lines.specs.Requests.{Desk, requestLines, readLines, nextIn}
 use Rattle.lines.specs.Start.{firstLine}
@@ -26,10 +25,6 @@ pub next-on : (sheet : List ℕ) (at : ℕ) (a : Answer Record) → at < length 
 unfolding nextIn
 next-on sheet at (Served r) h = omega arith
 next-on sheet at (Refused n) h = h
-
--- a test that fails does not hold
-fails : {P : Type 0} → false ≡ true → P
-fails e = let z : _≡_ {A = ℕ} 0 1 = cc in absurd (omega arith)
 
 -- nothing is read at the end of a sheet
 at-end : (n : ℕ) (desk : Desk) (h : ℕ) (bytes sheet : List ℕ) (at : ℕ) → length sheet ≤ at → chunksFrom n desk h bytes sheet at ≡ []

@@ -8,4 +8,5 @@ pub mod Questions
 pub mod Starting
 pub mod Chunks
 pub mod Enough
+pub mod Desk
 pub mod Determined

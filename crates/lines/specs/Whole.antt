@@ -1,8 +1,9 @@
 -- The report of a sheet, as a definition on its bytes; and the same as a program writes it, place by place.
 use Prim.Native.Nat.{ℕ, zero, suc}
 use mathlib.Core.Bool.{cond}
+use mathlib.Core.Path.{_≡_}
 use mathlib.Core.List.{List, [], _∷_, _++_, flatMap}
-use lib.ListN.{length}
+use lib.ListN.{length, getD}
 use lib.Dec.{ltb}
 use Rattle.bitmap.specs.Directory.{directoryOf}
 use Rattle.board.specs.Limits.{maxJoints}
@@ -13,8 +14,8 @@ use Rattle.sheet.specs.Sheet.{Verdict, Accepted, RefusedAt, maxRecords, maxByte
 use Rattle.sheet.specs.Promise.{readOf, bitmapIn}
 use Rattle.lines.specs.Text.{Line, textOf}
 use Rattle.lines.specs.Report.{maxAnswers, maxTrail}
-use Rattle.lines.specs.Requests.{Desk, requestLines, readLines, nextIn}
-use Rattle.lines.specs.Start.{firstLine}
+use Rattle.lines.specs.Requests.{Desk, deskOf, requestLines, readLines, nextIn}
+use Rattle.lines.specs.Start.{firstLine, toldOf}
 
 -- the started blocks of 64 bytes of the largest bitmap
 abbrev pub maxBlocks : ℕ
@@ -28,6 +29,22 @@ reportDesk bytes = record {
   columns = maxJoints;
   rooms = record { answers = maxAnswers; keys = maxJoints; corners = maxJoints; trail = maxTrail };
 }
+
+-- the board of a sheet that is served with the program's room, and the bytes of its bitmap
+pub record BoardIn (sheet : List ℕ) (height : ℕ) (bytes : List ℕ) : Type 0 where
+  pub served : List ℕ
+  pub reads : readOf sheet maxRecords maxBytes ≡ Accepted served
+  pub high : height ≡ getD served 0 0
+  pub bitmap : bytes ≡ bitmapIn (sheetOf sheet)
+
+-- that board on the program's desk
+pub record OnDesk (sheet : List ℕ) (height : ℕ) (bytes directory rows columns keys corners trail : List ℕ) : Type 0 where
+  pub board : BoardIn sheet height bytes
+  pub desk : deskOf directory rows columns keys corners trail ≡ reportDesk bytes
+
+-- the offset of its first record after the joints
+abbrev pub firstRequest : List ℕ → ℕ
+firstRequest sheet = getD (toldOf (readOf sheet maxRecords maxBytes)) 2 0
 
 -- the lines of records on a board, in the order of the sheet
 unfoldable pub linesOf : ℕ → List ℕ → List Record → List Line

@@ -6,6 +6,7 @@ ghost use Rattle.board.specs.Limits.{maxHeight, maxJoints};
 ghost use Rattle.lines.specs.Text.{textOf, Put};
 ghost use Rattle.lines.specs.Report.{room, maxTrail};
 ghost use Rattle.lines.specs.Requests.{deskOf, requestLines, Chunked};
+ghost use Rattle.lines.specs.Whole.{OnDesk, reportDesk};
 use crate::line::put_end;
 use crate::question::ask_lines;
 use crate::record::window_lines;
@@ -112,7 +113,7 @@ fn chunk_at(
     }
 }
 
-// The same, and the lists lent for the asking are left with zeros.
+// The lines of the record at a place of a sheet, for the board of the sheet on the program's desk. The lists lent for the asking are left with zeros.
 pub fn next_lines(
     height: u32,
     bytes: &[u8],
@@ -126,8 +127,8 @@ pub fn next_lines(
     trail: &mut [u32],
     out: &mut [u8],
 ) -> Chunk
-    requires { ⌜ (at < length (now sheet)) × (height ≤ maxHeight) × (length (now rows) ≤ maxJoints) × (length (now trail) ≤ maxTrail) × (room ≤ length (now out)) ⌝ }
-    ensures { λ r. ⌜ (Chunked (deskOf (now (directory .entry)) (now (rows .entry)) (now (columns .entry)) (now (keys .entry)) (now (corners .entry)) (now (trail .entry))) height (now (bytes .entry)) (now (sheet .entry)) at (now (out .entry)) r (now (out .exit))) × (now (rows .exit) ≡ replicate (length (now (rows .entry))) 0) × (now (columns .exit) ≡ replicate (length (now (columns .entry))) 0) × (now (keys .exit) ≡ replicate (length (now (keys .entry))) 0) × (now (corners .exit) ≡ replicate (length (now (corners .entry))) 0) × (now (trail .exit) ≡ replicate (length (now (trail .entry))) 0) ⌝ }
+    requires { ⌜ OnDesk (now sheet) height (now bytes) (now directory) (now rows) (now columns) (now keys) (now corners) (now trail) × (at < length (now sheet)) × (room ≤ length (now out)) ⌝ }
+    ensures { λ r. ⌜ (Chunked (reportDesk (now (bytes .entry))) height (now (bytes .entry)) (now (sheet .entry)) at (now (out .entry)) r (now (out .exit))) × (now (rows .exit) ≡ replicate (length (now (rows .entry))) 0) × (now (columns .exit) ≡ replicate (length (now (columns .entry))) 0) × (now (keys .exit) ≡ replicate (length (now (keys .entry))) 0) × (now (corners .exit) ≡ replicate (length (now (corners .entry))) 0) × (now (trail .exit) ≡ replicate (length (now (trail .entry))) 0) ⌝ }
 {
     let chunk = chunk_at(
         height,

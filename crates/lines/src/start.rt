@@ -1,8 +1,10 @@
 // The first line of a report: the board of the sheet, or why and where the sheet is refused.
+ghost use mathlib.Core.Path.{_≡_};
 ghost use Prim.Native.Nat.{_≤_};
 ghost use lib.ListN.{length};
 ghost use Rattle.lines.specs.Report.{room};
 ghost use Rattle.lines.specs.Start.{Started};
+ghost use Rattle.sheet.specs.Sheet.{maxRecords, maxBytes};
 use crate::line::put_board;
 use crate::line::put_refused;
 use sheet::Sheeted;
@@ -20,9 +22,9 @@ pub enum Begun {
     },
 }
 
-// Reads a sheet, leaves its bitmap, and puts the first line.
+// Reads a sheet with the program's room, leaves its bitmap, and puts the first line.
 pub fn first_line(sheet: &[u8], work: &mut [u32], bitmap: &mut [u8], out: &mut [u8]) -> Begun
-    requires { ⌜ room ≤ length (now out) ⌝ }
+    requires { ⌜ (length (now work) ≡ maxRecords) × (length (now bitmap) ≡ maxBytes) × (room ≤ length (now out)) ⌝ }
     ensures { λ r. ⌜ Started (now (sheet .entry)) (now (work .entry)) (now (bitmap .entry)) (now (out .entry)) r (now (work .exit)) (now (bitmap .exit)) (now (out .exit)) ⌝ }
 {
     match sheet::read(sheet, work, bitmap) {

@@ -1,20 +1,20 @@
 // The report of the joint sheet on standard input, on standard output.
+ghost use mathlib.Core.Path.{_≡_};
 ghost use Prim.Native.Nat.{_≤_};
 ghost use lib.ListN.{length};
-ghost use Rattle.board.specs.Limits.{maxHeight, maxJoints};
+ghost use Rattle.board.specs.Limits.{maxJoints};
 ghost use Rattle.lines.specs.Report.{room, maxTrail};
-ghost use Rattle.lines.specs.Whole.{maxBlocks};
-ghost use Rattle.sheet.specs.Sheet.{maxBytes};
+ghost use Rattle.lines.specs.Whole.{BoardIn, OnDesk, firstRequest, maxBlocks};
+ghost use Rattle.sheet.specs.Sheet.{maxRecords, maxBytes};
 use lines::ROOM;
 use lines::request::next_lines;
 use lines::start::Begun;
 use lines::start::first_line;
+use sheet::MAX_RECORDS;
+use sheet::MAX_SHEET;
 
 // One byte more than the longest sheet has, so that a longer one is told from it.
-const INPUT: usize = 65537;
-
-// The joint records of the longest sheet.
-const RECORDS: usize = 5957;
+const INPUT: usize = MAX_SHEET + 1;
 
 // The bytes of the largest bitmap, and its blocks of 64 bytes.
 const BITMAP: usize = 8875;
@@ -27,7 +27,7 @@ const JOINTS: usize = 4096;
 // The most boxes of a trail that is printed.
 const TRAIL: usize = 4096;
 
-// Prints the lines of the records from an offset on, each record's in one write.
+// Prints the lines of the records from the first after the joints on, each record's in one write, with the board on the program's desk.
 fn print_from(
     height: u32,
     bytes: &[u8],
@@ -41,7 +41,7 @@ fn print_from(
     trail: &mut [u32],
     out: &mut [u8],
 )
-    requires { ⌜ (height ≤ maxHeight) × (length (now rows) ≤ maxJoints) × (length (now trail) ≤ maxTrail) × (room ≤ length (now out)) ⌝ }
+    requires { ⌜ OnDesk (now sheet) height (now bytes) (now directory) (now rows) (now columns) (now keys) (now corners) (now trail) × (requests ≡ firstRequest (now sheet)) × (room ≤ length (now out)) ⌝ }
 {
     let mut at = requests;
     while at < sheet.len() {
@@ -78,7 +78,7 @@ fn print_requests(
     trail: &mut [u32],
     out: &mut [u8],
 )
-    requires { ⌜ (height ≤ maxHeight) × (length (now bytes) ≤ maxBytes) × (maxBlocks ≤ length (now blocks)) × (length (now rows) ≤ maxJoints) × (length (now trail) ≤ maxTrail) × (room ≤ length (now out)) ⌝ }
+    requires { ⌜ BoardIn (now sheet) height (now bytes) × (requests ≡ firstRequest (now sheet)) × (maxBlocks ≤ length (now blocks)) × (length (now rows) ≡ maxJoints) × (length (now columns) ≡ maxJoints) × (length (now keys) ≡ maxJoints) × (length (now corners) ≡ maxJoints) × (length (now trail) ≡ maxTrail) × (room ≤ length (now out)) ⌝ }
 {
     let count = bitmap::blocks_of(bytes.len());
     board::directory::make_directory(height, bytes, &mut blocks[..count]);
@@ -110,7 +110,7 @@ fn print_report(
     trail: &mut [u32],
     out: &mut [u8],
 )
-    requires { ⌜ (length (now bitmap) ≤ maxBytes) × (maxBlocks ≤ length (now blocks)) × (length (now rows) ≤ maxJoints) × (length (now trail) ≤ maxTrail) × (room ≤ length (now out)) ⌝ }
+    requires { ⌜ (length (now work) ≡ maxRecords) × (length (now bitmap) ≡ maxBytes) × (maxBlocks ≤ length (now blocks)) × (length (now rows) ≡ maxJoints) × (length (now columns) ≡ maxJoints) × (length (now keys) ≡ maxJoints) × (length (now corners) ≡ maxJoints) × (length (now trail) ≡ maxTrail) × (room ≤ length (now out)) ⌝ }
 {
     match first_line(sheet, work, bitmap, out) {
         Begun::Board {
@@ -145,7 +145,7 @@ fn print_report(
 fn main() {
     let mut input = [0u8; INPUT];
     let n = io::read_full(0, &mut input);
-    let mut work = [0u32; RECORDS];
+    let mut work = [0u32; MAX_RECORDS];
     let mut bitmap = [0u8; BITMAP];
     let mut blocks = [0u16; BLOCKS];
     let mut rows = [0u32; JOINTS];

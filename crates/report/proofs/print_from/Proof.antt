@@ -6,6 +6,7 @@ use lib.Seq.{length-take-le}
 use Rattle.sheet.specs.declared.kind.Stage.the-variants.{Requests}
 use Rattle.sheet.specs.Records.{recordAt}
 use Rattle.lines.proofs.Chunks.{next-on}
+use Rattle.lines.proofs.Desk.{desk-again}
 use borrow.Author.Needs.{needs}
 use Rattle.report.proofs.print_from.Statement.{statement}
 use Rattle.report.proofs.print_from.Tie as tie
@@ -22,7 +23,15 @@ loop-holds : tie.Need-loop-holds Inv-loop μ-loop
 loop-holds c = search needs
 
 next-lines-requires : tie.Need-next-lines-requires Inv-loop μ-loop
-next-lines-requires c κs = (omega arith, omega arith, omega arith, omega arith, omega arith)
+next-lines-requires c κs =
+    let g = c .before .before .before .before .before .before .before .before .before .before .before .before .before .before .before .before .before .args in
+    let pre = c .before .before .before .before .before .before .before .before .before .before .before .before .before .before .before .before .before .pre in
+    let l = c .before .before .before .before .before .before .before .loop in (
+      desk-again (g .sheet .now) (g .height) (g .bytes .now) (g .directory .now) (g .rows .now) (g .columns .now) (g .keys .now) (g .corners .now) (g .trail .now) (pre .0)
+          (l .rows) (l .columns) (l .keys) (l .corners) (l .trail) (l .inv .0) (l .inv .1) (l .inv .2) (l .inv .3) (l .inv .4),
+      omega arith,
+      omega arith,
+    )
 
 slice-reshare-prefix-write-all : tie.Need-slice-reshare-prefix-write-all Inv-loop μ-loop
 slice-reshare-prefix-write-all c = omega (arith, c .before .before .before .before .before .before .before .before .before .before .before .before .next-lines .ensures .0 .text .fits)

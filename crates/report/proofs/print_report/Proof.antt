@@ -1,8 +1,7 @@
 use mathlib.Core.Path.{sym}
 use native.Mathlib.Omega.{arith}
-use lib.ListN.{length-take}
 use lib.Seq.{length-take-le}
-use Rattle.lines.proofs.Starting.{started-fits}
+use Rattle.lines.proofs.Starting.{started-board}
 use borrow.Author.Needs.{needs}
 use Rattle.report.proofs.print_report.Statement.{statement}
 use Rattle.report.proofs.print_report.Tie as tie
@@ -28,9 +27,10 @@ cast-bytes c = search needs
 slice-reshare-prefix-print-requests : tie.Need-slice-reshare-prefix-print-requests
 slice-reshare-prefix-print-requests c =
     let g = c .before .before .before .before .before .before .before .before .before .before .before .before .before .before .before .before .before .before .before .before .before .before .before .before .before .args in
+    let pre = c .before .before .before .before .before .before .before .before .before .before .before .before .before .before .before .before .before .before .before .before .before .before .before .before .before .pre in
     let f = c .before .before .before .height .given in
-    let fits = started-fits (g .sheet .now) (g .work .now) (g .bitmap .now) (g .out .now) (f .0 .0) (f .0 .1 .0) (f .0 .1 .1 .0) (f .0 .1 .1 .1 .0) _ _ _ (rw (f .1) at (c .before .before .before .before .before .before .before .before .before .before .before .first-line .ensures)) in
-    omega (arith, fits .1)
+    let board = started-board (g .sheet .now) (g .work .now) (g .bitmap .now) (g .out .now) (f .0 .0) (f .0 .1 .0) (f .0 .1 .1 .0) (f .0 .1 .1 .1 .0) _ _ _ (pre .0) (pre .1) (rw (f .1) at (c .before .before .before .before .before .before .before .before .before .before .before .first-line .ensures)) in
+    board .2
 
 slice-aggregate-print-requests : tie.Need-slice-aggregate-print-requests
 slice-aggregate-print-requests c = sym (length-take-le _ _ (slice-reshare-prefix-print-requests (c .before)))
@@ -38,10 +38,10 @@ slice-aggregate-print-requests c = sym (length-take-le _ _ (slice-reshare-prefix
 print-requests-requires : tie.Need-print-requests-requires
 print-requests-requires c κs =
     let g = c .before .before .before .before .before .before .before .before .before .before .before .before .before .before .before .before .before .before .before .before .before .before .before .before .before .before .before .before .before .before .before .before .before .args in
-    let f = c .before .before .before .before .before .before .before .before .before .before .before .height .given in
-    let fits = started-fits (g .sheet .now) (g .work .now) (g .bitmap .now) (g .out .now) (f .0 .0) (f .0 .1 .0) (f .0 .1 .1 .0) (f .0 .1 .1 .1 .0) _ _ _ (rw (f .1) at (c .before .before .before .before .before .before .before .before .before .before .before .before .before .before .before .before .before .before .before .first-line .ensures)) in
     let pre = c .before .before .before .before .before .before .before .before .before .before .before .before .before .before .before .before .before .before .before .before .before .before .before .before .before .before .before .before .before .before .before .before .before .pre in
-    (fits .0, simp length-take (omega (arith, fits .1, pre .0)), pre .1, pre .2, pre .3, omega (arith, pre .4, c .before .before .before .before .before .before .before .before .before .before .before .before .before .before .out .given))
+    let f = c .before .before .before .before .before .before .before .before .before .before .before .height .given in
+    let board = started-board (g .sheet .now) (g .work .now) (g .bitmap .now) (g .out .now) (f .0 .0) (f .0 .1 .0) (f .0 .1 .1 .0) (f .0 .1 .1 .1 .0) _ _ _ (pre .0) (pre .1) (rw (f .1) at (c .before .before .before .before .before .before .before .before .before .before .before .before .before .before .before .before .before .before .before .first-line .ensures)) in
+    (board .0, board .1, pre .2, pre .3, pre .4, pre .5, pre .6, pre .7, omega (arith, pre .8, c .before .before .before .before .before .before .before .before .before .before .before .before .before .before .out .given))
 
 enum-known-end : tie.Need-enum-known-end
 enum-known-end c = search needs

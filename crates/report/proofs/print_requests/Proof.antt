@@ -1,9 +1,10 @@
 use Prim.Native.Nat.{_≤_}
-use mathlib.Core.Path.{_≡_, sym}
+use mathlib.Core.Path.{_≡_, sym, _∙_}
 use native.Mathlib.Omega.{arith}
-use lib.ListN.{length, take, length-append, length-drop}
-use lib.Seq.{length-take-le}
+use lib.ListN.{length, take, drop, length-append, length-drop}
+use lib.Seq.{length-take-le, take-at}
 use Rattle.bitmap.specs.Directory.{blocks}
+use Rattle.lines.proofs.Desk.{board-short, board-directory, on-desk}
 use borrow.Author.Needs.{needs}
 use Rattle.report.proofs.print_requests.Statement.{statement}
 use Rattle.report.proofs.print_requests.Tie as tie
@@ -13,7 +14,9 @@ blocks-of-requires c κs = search needs
 
 slice-relend-prefix-make-directory : tie.Need-slice-relend-prefix-make-directory
 unfolding blocks
-slice-relend-prefix-make-directory c = omega (arith, c .blocks-of .ensures)
+slice-relend-prefix-make-directory c =
+    let g = c .before .before .before .before .before .before .before .before .before .before .args in
+    omega (arith, c .blocks-of .ensures, board-short (g .sheet .now) (g .height) (g .bytes .now) (c .before .before .before .before .before .before .before .before .before .before .pre .0))
 
 slice-aggregate-make-directory : tie.Need-slice-aggregate-make-directory
 slice-aggregate-make-directory c = sym (length-take-le _ _ (slice-relend-prefix-make-directory (c .before)))
@@ -26,7 +29,9 @@ unfolding blocks
 slice-reshare-prefix-print-from c =
     let count = c .before .before .before .before .blocks-of .result in
     let list = c .before .before .before .before .before .before .before .before .before .before .before .before .before .before .args .blocks .now in
-    let few : count ≤ length list = omega (arith, c .before .before .before .before .blocks-of .ensures) in
+    let g = c .before .before .before .before .before .before .before .before .before .before .before .before .before .before .args in
+    let short = board-short (g .sheet .now) (g .height) (g .bytes .now) (c .before .before .before .before .before .before .before .before .before .before .before .before .before .before .pre .0) in
+    let few : count ≤ length list = omega (arith, c .before .before .before .before .blocks-of .ensures, short) in
     let as-long : length (c .before .before .make-directory .last .1 .1 .0) ≡ length (take count list) = omega arith in
     simp (length-append, length-drop) (omega (arith, length-take-le count list few))
 
@@ -34,7 +39,21 @@ slice-aggregate-print-from : tie.Need-slice-aggregate-print-from
 slice-aggregate-print-from c = sym (length-take-le _ _ (slice-reshare-prefix-print-from (c .before)))
 
 print-from-requires : tie.Need-print-from-requires
-print-from-requires c κs = search needs
+unfolding blocks
+print-from-requires c κs =
+    let g = c .before .before .before .before .before .before .before .before .before .before .before .before .before .before .before .before .before .before .before .before .before .args in
+    let pre = c .before .before .before .before .before .before .before .before .before .before .before .before .before .before .before .before .before .before .before .before .before .pre in
+    let count = c .before .before .before .before .before .before .before .before .before .before .before .blocks-of .result in
+    let list = g .blocks .now in
+    let made = c .before .before .before .before .before .before .before .before .before .make-directory in
+    let m = made .last .1 .1 .0 in
+    let short = board-short (g .sheet .now) (g .height) (g .bytes .now) (pre .0) in
+    let few : count ≤ length list = omega (arith, c .before .before .before .before .before .before .before .before .before .before .before .blocks-of .ensures, short) in
+    let size : length (take count list) ≡ blocks (length (g .bytes .now)) = length-take-le count list few ∙ c .before .before .before .before .before .before .before .before .before .before .before .blocks-of .ensures in
+    let own = board-directory (g .sheet .now) (g .height) (g .bytes .now) (pre .0) (length (take count list)) m size (made .ensures .1) in
+    let as-long : length m ≡ length (take count list) = omega arith in
+    let first = take-at m (drop count list) count (as-long ∙ length-take-le count list few) in
+    (on-desk (g .sheet .now) (g .height) (g .bytes .now) (pre .0) _ _ _ _ _ _ (first ∙ own) (pre .3) (pre .4) (pre .5) (pre .6) (pre .7), pre .1, pre .8)
 
 same-length : tie.Need-same-length
 same-length c = search needs

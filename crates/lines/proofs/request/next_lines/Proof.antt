@@ -3,6 +3,7 @@ use mathlib.Core.Path.{_≡_}
 use mathlib.Core.List.{List}
 use native.Mathlib.Omega.{arith}
 use lib.ListN.{length, replicate}
+use Rattle.lines.proofs.Desk.{board-low, desk-rows, desk-trail}
 use borrow.Author.Needs.{needs}
 use Rattle.lines.proofs.request.next_lines.Statement.{statement}
 use Rattle.lines.proofs.request.next_lines.Tie as tie
@@ -12,7 +13,15 @@ zeros : (was mid is : List ℕ) → is ≡ replicate (length mid) 0 → length m
 zeros was mid is e l = rw (← l) e
 
 chunk-at-requires : tie.Need-chunk-at-requires
-chunk-at-requires c κs = search needs
+chunk-at-requires c κs =
+    let g = c .before .before .before .before .before .before .before .before .before .before .before .before .before .before .before .args in
+    let pre = c .before .before .before .before .before .before .before .before .before .before .before .before .before .before .before .pre in (
+      pre .1,
+      board-low (g .sheet .now) (g .height) (g .bytes .now) (pre .0 .board),
+      omega (arith, desk-rows _ _ _ _ _ _ _ _ _ (pre .0)),
+      omega (arith, desk-trail _ _ _ _ _ _ _ _ _ (pre .0)),
+      pre .2,
+    )
 
 clear-words-requires : tie.Need-clear-words-requires
 clear-words-requires c κs = search needs
@@ -56,7 +65,7 @@ returns c =
     let as-long-keys : length (after .1 .1 .1 .1 .1 .1 .1 .0) ≡ length (g .keys .now) = omega arith in
     let as-long-corners : length (after .1 .1 .1 .1 .1 .1 .1 .1 .0) ≡ length (g .corners .now) = omega arith in
     let as-long-trail : length (after .1 .1 .1 .1 .1 .1 .1 .1 .1 .0) ≡ length (g .trail .now) = omega arith in
-    (c .before .before .before .before .before .before .before .before .before .before .before .before .before .before .before .before .before .before .before .before .before .before .before .before .before .before .before .before .before .before .before .before .chunk-at .ensures, zeros (g .rows .now) (after .1 .1 .1 .1 .1 .0) _ (c .before .before .before .before .before .before .before .before .before .before .before .before .before .before .before .before .before .before .clear-words .ensures) as-long-rows, zeros (g .columns .now) (after .1 .1 .1 .1 .1 .1 .0) _ (c .before .before .before .before .before .before .before .before .before .before .before .before .before .before .clear-words2 .ensures) as-long-columns, zeros (g .keys .now) (after .1 .1 .1 .1 .1 .1 .1 .0) _ (c .before .before .before .before .before .before .before .before .before .before .clear-longs .ensures) as-long-keys, zeros (g .corners .now) (after .1 .1 .1 .1 .1 .1 .1 .1 .0) _ (c .before .before .before .before .before .before .clear-words3 .ensures) as-long-corners, zeros (g .trail .now) (after .1 .1 .1 .1 .1 .1 .1 .1 .1 .0) _ (c .before .before .clear-words4 .ensures) as-long-trail)
+    (rw (c .before .before .before .before .before .before .before .before .before .before .before .before .before .before .before .before .before .before .before .before .before .before .before .before .before .before .before .before .before .before .before .before .before .before .before .before .before .before .before .before .before .before .before .before .before .before .before .before .pre .0 .desk) at (c .before .before .before .before .before .before .before .before .before .before .before .before .before .before .before .before .before .before .before .before .before .before .before .before .before .before .before .before .before .before .before .before .chunk-at .ensures), zeros (g .rows .now) (after .1 .1 .1 .1 .1 .0) _ (c .before .before .before .before .before .before .before .before .before .before .before .before .before .before .before .before .before .before .clear-words .ensures) as-long-rows, zeros (g .columns .now) (after .1 .1 .1 .1 .1 .1 .0) _ (c .before .before .before .before .before .before .before .before .before .before .before .before .before .before .clear-words2 .ensures) as-long-columns, zeros (g .keys .now) (after .1 .1 .1 .1 .1 .1 .1 .0) _ (c .before .before .before .before .before .before .before .before .before .before .clear-longs .ensures) as-long-keys, zeros (g .corners .now) (after .1 .1 .1 .1 .1 .1 .1 .1 .0) _ (c .before .before .before .before .before .before .clear-words3 .ensures) as-long-corners, zeros (g .trail .now) (after .1 .1 .1 .1 .1 .1 .1 .1 .1 .0) _ (c .before .before .clear-words4 .ensures) as-long-trail)
 
 pub next-lines-spec : {M : Type 1} → statement M
 next-lines-spec =

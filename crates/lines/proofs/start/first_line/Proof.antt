@@ -1,7 +1,7 @@
 use mathlib.Core.Path.{_≡_, ap, sym, _∙_}
 use native.Mathlib.Omega.{arith}
 use lib.ListN.{length}
-use Rattle.sheet.specs.Sheet.{RefusedAt}
+use Rattle.sheet.specs.Sheet.{RefusedAt, maxSheet}
 use Rattle.sheet.specs.Promise.{sheetedOf}
 use Rattle.lines.specs.Lines.{boardLine, refusedLine}
 use Rattle.lines.proofs.Room.{two-words, three-words, line-short}
@@ -28,12 +28,14 @@ number-requires : tie.Need-number-requires
 number-requires c κs = search needs
 
 cast-put-refused : tie.Need-cast-put-refused
+unfolding maxSheet
 cast-put-refused c =
     let g = c .before .before .before .before .before .before .before .before .before .before .before .before .before .before .before .args in
     let refused = sym (c .before .before .before .before .before .before .before .before .read .ensures .answered) ∙ ap sheetedOf (c .before .before .refusal .given .1) in
     record { fits = omega (arith, sheet-low (g .sheet .now) (length (g .work .now)) (length (g .bitmap .now)), ap offsetIn refused) }
 
 put-refused-requires : tie.Need-put-refused-requires
+unfolding maxSheet
 put-refused-requires c κs =
     let g = c .before .before .before .before .before .before .before .before .before .before .before .before .before .before .before .before .args in
     let at = c .before .before .before .refusal .given .0 .1 .0 in
