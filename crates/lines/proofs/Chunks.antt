@@ -1,9 +1,9 @@
 -- The records of a report one after the other: each read brings the next place on, and what the places say is the report.
 use Prim.Native.Nat.{ℕ, zero, suc, _+_, _≤_, _<_}
 use mathlib.Core.Path.{_≡_, refl, ap, sym, _∙_}
-use mathlib.Core.List.{List, [], _∷_, _++_, flatMap}
+use mathlib.Core.List.{List, [], _∷_, _++_, flatMap, append-nil}
 use native.Mathlib.Omega.{arith}
-use lib.ListN.{length}
+use lib.ListN.{length, getD}
 use borrow.Author.Tests.{lt-ltb, le-ltb}
 use Rattle.refusal.specs.Answer.{Answer, Served, Refused}
 use Rattle.order.proofs.Total.{flatMap-append}
@@ -11,14 +11,15 @@ use Rattle.sheet.specs.declared.kind.Stage.the-variants.{Requests}
 use Rattle.sheet.specs.declared.record.Record.{Record}
 use Rattle.sheet.specs.declared.record.Record.the-variants.{Board, Joint, Question, Window, End}
 use Rattle.sheet.specs.Records.{recordAt, kindIn, nextAfter}
-use Rattle.sheet.specs.Sheet.{Accepted, maxRecords, maxBytes, sheetOf, heightAfter, heightIn, afterJoints}
+use Rattle.sheet.specs.Sheet.{Accepted, RefusedAt, maxRecords, maxBytes, heightAfter}
 use Rattle.sheet.specs.Promise.{readOf, bitmapIn}
 use Rattle.sheet.proofs.Scanning.{read-as}
-use Rattle.sheet.proofs.Shape.{Stand, last, more, fails, sheet-shape}
+use Rattle.sheet.proofs.Shape.{Stand, last, more, fails}
+use Rattle.sheet.proofs.Served.{served-board}
 use Rattle.lines.specs.Text.{bytesOf, textOf}
 use Rattle.lines.specs.Requests.{Desk, requestLines, readLines, nextIn}
 use Rattle.lines.specs.Start.{firstLine}
-use Rattle.lines.specs.Whole.{reportDesk, linesOf, restOf, reportOf, chunksFrom}
+use Rattle.lines.specs.Whole.{BoardIn, firstRequest, reportDesk, linesOf, restOf, reportOf, chunksFrom}
 
 -- the place of the next record is farther on
 pub next-on : (sheet : List ℕ) (at : ℕ) (a : Answer Record) → at < length sheet → at < nextIn sheet at a
@@ -60,11 +61,19 @@ chunks-are (suc n) desk bytes sheet (more {h = h} {at = at} {rs = rs} (Window a 
     one-read n desk h bytes sheet at (Window a b c d) rs (omega (arith, read-as Requests h sheet at (Window a b c d) e .long)) e (chunks-are n desk bytes sheet rest (omega arith))
 chunks-are (suc n) desk bytes sheet (more End go e rest) long = fails (sym go)
 
--- the report of an accepted sheet: its first line, then what is read from the offset of the first record after the joints on
-pub report-chunks : (sheet : List ℕ) (rs : List Record) (served : List ℕ) → sheetOf sheet ≡ Accepted rs → readOf sheet maxRecords maxBytes ≡ Accepted served
-    → textOf (reportOf sheet) ≡ bytesOf (firstLine (Accepted served)) ++ chunksFrom (length sheet) (reportDesk (bitmapIn (sheetOf sheet))) (heightIn 0 rs) (bitmapIn (sheetOf sheet)) sheet (afterJoints rs)
+-- the report of a sheet that is served: its first line, then what is read from its first record after the joints on, one record after the other
+pub report-chunks : (sheet : List ℕ) (height : ℕ) (bytes : List ℕ) → BoardIn sheet height bytes
+    → textOf (reportOf sheet) ≡ bytesOf (firstLine (readOf sheet maxRecords maxBytes)) ++ chunksFrom (length sheet) (reportDesk bytes) height bytes sheet (firstRequest sheet)
 unfolding reportOf restOf linesOf textOf flatMap
-report-chunks sheet rs served e f =
-    let bytes = bitmapIn (Accepted rs) in
-    let read = chunks-are (length sheet) (reportDesk bytes) bytes sheet (sheet-shape sheet rs e .requests) (omega arith) in
-    rw (f, e) (ap (λ (l : List ℕ). bytesOf (firstLine (Accepted served)) ++ l) (sym read))
+report-chunks sheet height bytes b =
+    served-board sheet maxRecords maxBytes (b .served) (b .reads) λ rs known.
+    let board = bitmapIn (Accepted rs) in
+    let read = chunks-are (length sheet) (reportDesk board) board sheet (known .shaped .requests) (omega arith) in
+    let high = b .high ∙ sym (ap (λ (vs : List ℕ). getD vs 0 0) (known .numbers)) in
+    let there = sym (ap (λ (vs : List ℕ). getD vs 4 0) (known .numbers)) in
+    rw (b .bitmap, b .reads, known .accepted, high, there) (ap (λ (l : List ℕ). bytesOf (firstLine (Accepted (b .served))) ++ l) (sym read))
+
+-- and of one that is refused: its one line
+pub report-refused : (sheet : List ℕ) (n o : ℕ) → readOf sheet maxRecords maxBytes ≡ RefusedAt n o → textOf (reportOf sheet) ≡ bytesOf (firstLine (readOf sheet maxRecords maxBytes))
+unfolding reportOf restOf textOf flatMap
+report-refused sheet n o e = rw (e, append-nil (bytesOf (firstLine (RefusedAt n o))))

@@ -6,11 +6,9 @@ use mathlib.Core.List.{List, [], _∷_, _++_, flatMap}
 use lib.Dec.{ltb}
 use lib.ListN.{length}
 use lib.Seq.{sets}
+use Rattle.measure.specs.Measure.{nought}
 
--- the bytes 0, space and line feed
-abbrev pub nought : ℕ
-nought = 0x30
-
+-- the bytes space and line feed
 abbrev pub space : ℕ
 space = 0x20
 
@@ -22,13 +20,13 @@ unfoldable pub digits : ℕ → ℕ → List ℕ
 digits zero n = []
 digits (suc k) n = cond (ltb n 10) ((nought + n) ∷ []) (digits k (n / 10) ++ (nought + n % 10) ∷ [])
 
--- n in decimal; n has fewer than n + 2 digits
-unfoldable pub decimal : ℕ → List ℕ
-decimal n = digits (suc n) n
+-- n in decimal: n + 1 digits are always enough (theorem `decimal-says`: its digits say n)
+unfoldable pub inDecimal : ℕ → List ℕ
+inDecimal n = digits (suc n) n
 
 -- a number after a space
 unfoldable pub field : ℕ → List ℕ
-field n = space ∷ decimal n
+field n = space ∷ inDecimal n
 
 -- a line: a word, then numbers
 pub record Line : Type 0 where

@@ -1,11 +1,11 @@
 // The bytes of a line: a word, then numbers in decimal, each after a space, then a line feed.
 ghost use mathlib.Core.List.{flatMap};
-ghost use Rattle.lines.specs.Text.{decimal, field, Line, bytesOf, Fits, Put};
+ghost use Rattle.lines.specs.Text.{inDecimal, field, Line, bytesOf, Fits, Put};
 
 // Puts a number in decimal from a place on; the place behind it. The digits before the last one are those of a tenth.
 fn put_decimal(n: u32, out: &mut [u8], at: usize) -> usize
-    requires { ⌜ Fits (decimal n) at (now out) ⌝ }
-    ensures { λ r. ⌜ Put (decimal n) at (now (out .entry)) r (now (out .exit)) ⌝ }
+    requires { ⌜ Fits (inDecimal n) at (now out) ⌝ }
+    ensures { λ r. ⌜ Put (inDecimal n) at (now (out .entry)) r (now (out .exit)) ⌝ }
 {
     if n < 10 {
         out[at] = b'0' + n as u8;

@@ -3,7 +3,7 @@ use Prim.Native.Nat.{ℕ, _+_, _/_, _<_, _≤_}
 use mathlib.Core.Path.{_≡_, ap, _∙_}
 use native.Mathlib.Omega.{arith}
 use lib.ListN.{length, length-append}
-use Rattle.lines.specs.Text.{decimal}
+use Rattle.lines.specs.Text.{inDecimal}
 use Rattle.lines.proofs.Digits.{decimal-digit, decimal-more}
 use Rattle.lines.proofs.Putting.{put-one, put-then, put-length}
 use borrow.Fn.Kinds.{In}
@@ -15,7 +15,7 @@ use Rattle.lines.proofs.text.+put_decimal.{statement}
 use Rattle.lines.proofs.text.+put_decimal.Tie.{close}
 
 -- a number has a digit more than its tenth
-one-more : (n : ℕ) → 10 ≤ n → length (decimal n) ≡ length (decimal (n / 10)) + 1
+one-more : (n : ℕ) → 10 ≤ n → length (inDecimal n) ≡ length (inDecimal (n / 10)) + 1
 one-more n h = ap length (decimal-more n h) ∙ simp length-append
 
 abbrev μ-put-decimal : Measures 1 put-decimal-kinds.ps ℕ
