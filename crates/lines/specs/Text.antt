@@ -1,5 +1,7 @@
 -- The lines of a report as bytes: words, decimal numbers, single spaces, a line feed after each line.
 use Prim.Native.Nat.{ℕ, zero, suc, _+_, _/_, _%_, _≤_}
+use Prim.Native.Char.{code}
+use Prim.Native.String.{String, len, charAt}
 use mathlib.Core.Bool.{cond}
 use mathlib.Core.Path.{_≡_}
 use mathlib.Core.List.{List, [], _∷_, _++_, flatMap}
@@ -27,6 +29,14 @@ inDecimal n = digits (suc n) n
 -- a number after a space
 unfoldable pub field : ℕ → List ℕ
 field n = space ∷ inDecimal n
+
+-- the bytes of a word: n letters from place i on, and all
+abbrev pub lettersFrom : ℕ → ℕ → String → List ℕ
+lettersFrom zero i word = []
+lettersFrom (suc n) i word = code (charAt word i) ∷ lettersFrom n (suc i) word
+
+abbrev pub letters : String → List ℕ
+letters word = lettersFrom (len word) 0 word
 
 -- a line: a word, then numbers
 pub record Line : Type 0 where
