@@ -1,18 +1,14 @@
 -- A question that is asked: from the tests that it passes and the search to its answer.
-use Prim.Native.Nat.{ℕ, suc, _-_, _≤_, _<_}
+use Prim.Native.Nat.{ℕ, _≤_, _<_}
 use mathlib.Core.Bool.{Bool, true, false, _&&_}
 use mathlib.Core.Path.{_≡_, refl, sym, ap, _∙_}
 use mathlib.Core.List.{List, [], _∷_}
-use native.Mathlib.Omega.{arith}
-use lib.ListN.{length, getD, replicate}
+use lib.ListN.{length}
 use lib.Dec.{leb}
 use lib.IntN.{natAbs}
 use borrow.Author.Tests.{leb-true, le-leb, lt-leb}
-use Rattle.refusal.specs.Answer.{Answer, Served, Refused, _unless_, _then_, leftIn}
-use Rattle.refusal.specs.Numbers.{numberOf}
-use Rattle.refusal.specs.declared.Refusal.{Refusal}
-use Rattle.refusal.proofs.Answers.{not-both, passed, went-on, left-refused}
-use Rattle.order.proofs.Bag.{each-getD}
+use Rattle.refusal.specs.Answer.{Answer, Served, Refused, _unless_, _then_}
+use Rattle.refusal.proofs.Answers.{not-both, passed, went-on}
 use Rattle.bitmap.specs.Directory.{directoryOf, alike}
 use Rattle.bitmap.proofs.Directory.{alike-true}
 use Rattle.board.specs.Limits.{maxHeight, maxJoints, maxPlace}
@@ -21,24 +17,16 @@ use Rattle.board.specs.Check.{checkOf, firstFault, faults, enough}
 use Rattle.board.specs.Ready.{Ready}
 use Rattle.board.proofs.Valid.{both, served-valid}
 use Rattle.search.specs.Question.{answerKeys, trail}
-use Rattle.search.proofs.Distances.{answer-near, answer-few}
 use Rattle.nearest.specs.declared.distance.Place.{Place}
-use Rattle.nearest.specs.declared.step.Tally.{Tally}
-use Rattle.nearest.specs.declared.ask.Nearest.the-variants.{Found, Refused as Turned}
 use Rattle.nearest.specs.Places.{placeOf, inRange, Named}
-use Rattle.nearest.specs.Step.{handedIn}
-use Rattle.nearest.specs.Search.{Reached}
-use Rattle.nearest.specs.Answers.{Handed}
 use Rattle.nearest.specs.Promise.{maxWanted, Rooms, workFor, roomOf, nearestOf}
-use Rattle.nearest.specs.Asked.{roomsOf, Asked}
-use Rattle.nearest.proofs.Answering.{handed-at}
 
 -- what is served is one thing
 same-served : {A : Type 0} {x y : A} → Served x ≡ Served y → y ≡ x
 same-served {x = x} {y = y} e = cc
 
 -- the check serves the joints and the groups
-pub check-serves : (h : ℕ) (bytes : List ℕ) {x : List ℕ} → checkOf h bytes ≡ Served x → x ≡ length (joints h bytes) ∷ groups h bytes ∷ []
+check-serves : (h : ℕ) (bytes : List ℕ) {x : List ℕ} → checkOf h bytes ≡ Served x → x ≡ length (joints h bytes) ∷ groups h bytes ∷ []
 unfolding checkOf
 check-serves h bytes e =
     let one = passed 1 (leb 1 h && leb h maxHeight) _ e in
@@ -77,7 +65,7 @@ pub record May (h : ℕ) (bytes d : List ℕ) (p : Place) (k : ℕ) (r : Rooms) 
   pub corners : workFor h bytes ≤ r .corners
 
 -- the last test alone
-only : (n : ℕ) (t : Bool) → (n unless t) ≡ Served true → t ≡ true
+only : (n : ℕ) (t : Bool) {y : Bool} → (n unless t) ≡ Served y → t ≡ true
 only n true e = refl
 only n false e = absurd (not-both e)
 
@@ -86,13 +74,12 @@ module _ (h : ℕ) (bytes d : List ℕ) (p : Place) (k : ℕ) (r : Rooms) where
   abbrev pub passOf′ : Answer Bool
   passOf′ = checkOf h bytes then 6 unless alike d (directoryOf bytes) then roomOf p k (workFor h bytes) r
 
-  -- a question that passes them may be asked
-  pub may-ask : passOf′ ≡ Served true → May h bytes d p k r
-  may-ask e =
-      let q = pass-served (checkOf h bytes) 6 (alike d (directoryOf bytes)) (roomOf p k (workFor h bytes) r) e in
-      let serves : checkOf h bytes ≡ Served (length (joints h bytes) ∷ groups h bytes ∷ []) = q .first ∙ ap Served (check-serves h bytes (q .first)) in
+  -- what the tests show
+  may : {x : List ℕ} {y : Bool} → checkOf h bytes ≡ Served x → alike d (directoryOf bytes) ≡ true → roomOf p k (workFor h bytes) r ≡ Served y → May h bytes d p k r
+  may board ranked room =
+      let serves : checkOf h bytes ≡ Served (length (joints h bytes) ∷ groups h bytes ∷ []) = board ∙ ap Served (check-serves h bytes board) in
       let s = served-valid h bytes (length (joints h bytes)) (groups h bytes) serves in
-      let seven = passed 7 (inRange p) _ (q .asked) in
+      let seven = passed 7 (inRange p) _ room in
       let eight = passed 8 (leb 1 k && leb k maxWanted) _ (seven .1) in
       let nine = passed 9 (leb k (r .answers)) _ (eight .1) in
       let ten = both (leb (workFor h bytes) (r .keys)) (leb (workFor h bytes) (r .corners)) (only 10 _ (nine .1)) in
@@ -100,13 +87,28 @@ module _ (h : ℕ) (bytes d : List ℕ) (p : Place) (k : ℕ) (r : Rooms) where
       let wanted = both (leb 1 k) (leb k maxWanted) (eight .0) in
       record {
         named = record { row = leb-true _ _ (place .0); column = leb-true _ _ (place .1) };
-        ready = record { valid = s .valid; low = s .low; few = s .few; ranked = alike-true d (directoryOf bytes) (q .tested) };
+        ready = record { valid = s .valid; low = s .low; few = s .few; ranked = alike-true d (directoryOf bytes) ranked };
         some = leb-true _ _ (wanted .0);
         few = leb-true _ _ (wanted .1);
         answers = leb-true _ _ (nine .0);
         keys = leb-true _ _ (ten .0);
         corners = leb-true _ _ (ten .1);
       }
+
+  -- a question that passes them may be asked
+  pub may-ask : passOf′ ≡ Served true → May h bytes d p k r
+  may-ask e = let q = pass-served (checkOf h bytes) 6 (alike d (directoryOf bytes)) (roomOf p k (workFor h bytes) r) e in may (q .first) (q .tested) (q .asked)
+
+  -- one that is served passed them, and its answer and its trail are so long
+  pub served-may : {j g : ℕ} → nearestOf h bytes d p k r ≡ Served (j ∷ g ∷ [])
+      → May h bytes d p k r × (length (answerKeys (placeOf p) h bytes k) ≡ j) × (length (trail (placeOf p) h bytes k) ≡ g)
+  unfolding nearestOf
+  served-may e =
+      let board = went-on (checkOf h bytes) _ e in
+      let six = passed 6 (alike d (directoryOf bytes)) _ (board .2) in
+      let room = went-on (roomOf p k (workFor h bytes) r) _ (six .1) in
+      let eleven = passed 11 (leb (length (trail (placeOf p) h bytes k)) (r .trail)) _ (room .2) in
+      (may (board .1) (six .0) (room .1), cc (eleven .1), cc (eleven .1))
 
   -- one that does not is refused by the first test that it fails
   pub refused-before : {m : ℕ} → passOf′ ≡ Refused m → nearestOf h bytes d p k r ≡ Refused m
@@ -129,49 +131,3 @@ module _ (h : ℕ) (bytes d : List ℕ) (p : Place) (k : ℕ) (r : Rooms) where
   pub served-fits : passOf′ ≡ Served true → length (trail (placeOf p) h bytes k) ≤ r .trail
       → nearestOf h bytes d p k r ≡ Served (length (answerKeys (placeOf p) h bytes k) ∷ length (trail (placeOf p) h bytes k) ∷ [])
   served-fits e fits = goes-by e ∙ rw (le-leb (length (trail (placeOf p) h bytes k)) (r .trail) fits) refl
-
--- the keys of an answer that are handed out
-pub handed-small : (p : Place) (h : ℕ) (bytes : List ℕ) (k : ℕ) {n : ℕ} {keys : List ℕ} → Named p → h ≤ maxHeight → n ≤ length keys → n ≡ length (answerKeys (placeOf p) h bytes k) → handedIn n keys ≡ answerKeys (placeOf p) h bytes k → Handed n keys
-handed-small p h bytes k {n} {keys} named low room many same =
-    record {
-      room = room;
-      small = λ i lt.
-          let e : getD (answerKeys (placeOf p) h bytes k) i 0 ≡ getD keys (length keys - suc i) 0 = ap (λ (l : List ℕ). getD l i 0) (sym same) ∙ handed-at n keys i lt in
-          omega (arith, rw e at (each-getD i 0 (answer-near (placeOf p) (named .row) (named .column) h bytes k low) (omega arith)));
-    }
-
-module _ {h : ℕ} {bytes d : List ℕ} {p : Place} {k answers : ℕ} {keys corners trailList : List ℕ} where
-  -- refused: nothing is handed out, and the lists are clear
-  pub asked-refused : {f : Refusal} {keys′ corners′ trail′ : List ℕ} → nearestOf h bytes d p k (roomsOf answers keys corners trailList) ≡ Refused (numberOf f)
-      → length keys′ ≡ length keys → corners′ ≡ replicate (length corners) 0 → trail′ ≡ replicate (length trailList) 0
-      → Asked h bytes d p k answers keys corners trailList (Turned f) keys′ corners′ trail′
-  unfolding handedIn
-  asked-refused e long c l =
-      record {
-        number = sym e;
-        handed = record { room = omega arith; small = λ i lt. absurd (omega arith) };
-        found = rw e refl;
-        fits = omega arith;
-        keys-long = long;
-        corners-left = c;
-        trail-left = l ∙ left-refused _ _ (length trailList) (sym e);
-      }
-
-  -- served: the answer is handed out, and the trail is in its list
-  pub asked-found : {t : Tally} {keys′ corners′ trail′ : List ℕ} → May h bytes d p k (roomsOf answers keys corners trailList) → passOf′ h bytes d p k (roomsOf answers keys corners trailList) ≡ Served true
-      → Reached (placeOf p) h bytes k t keys′ trail′ → length trail′ ≡ length trailList → t .opened ≤ length trailList → t .handed ≤ length keys′
-      → length keys′ ≡ length keys → corners′ ≡ replicate (length corners) 0
-      → Asked h bytes d p k answers keys corners trailList (Found (t .handed) (t .opened)) keys′ corners′ trail′
-  unfolding leftIn
-  asked-found {t} may e s trail-long fits room long c =
-      let rooms = roomsOf answers keys corners trailList in
-      let served = served-fits h bytes d p k rooms e (omega (arith, s .opened)) in
-      record {
-        number = rw (served, s .handed, s .opened) refl;
-        handed = handed-small p h bytes k (may .named) (may .ready .low) room (s .handed) (s .answer);
-        found = rw served (s .answer);
-        fits = omega (arith, s .handed, answer-few (placeOf p) h bytes k, may .answers);
-        keys-long = long;
-        corners-left = c;
-        trail-left = rw (served, ← trail-long) (s .in-trail);
-      }

@@ -1,27 +1,26 @@
 -- A question without its answer list.
-use Prim.Native.Nat.{ℕ, _≤_}
+use Prim.Native.Nat.{ℕ, _-_}
 use mathlib.Core.Path.{_≡_}
-use mathlib.Core.List.{List}
+use mathlib.Core.List.{List, _++_, reverse}
 use lib.ListN.{length, replicate}
 use Rattle.refusal.specs.Answer.{leftIn}
 use Rattle.search.specs.Question.{answerKeys, trail}
 use Rattle.nearest.specs.declared.distance.Place.{Place}
 use Rattle.nearest.specs.declared.ask.Nearest.{Nearest}
 use Rattle.nearest.specs.Places.{placeOf}
-use Rattle.nearest.specs.Step.{handedIn}
-use Rattle.nearest.specs.Answers.{Handed}
-use Rattle.nearest.specs.Promise.{Rooms, nearestOf, numbersOf, jointsOf, foundIn}
+use Rattle.nearest.specs.Promise.{Rooms, nearestOf, numbersOf, foundIn}
 
 -- the rooms of lists
 abbrev pub roomsOf : ℕ → List ℕ → List ℕ → List ℕ → Rooms
 roomsOf answers keys corners trail = record { answers = answers; keys = length keys; corners = length corners; trail = length trail }
 
--- answered as is promised; the joints found are handed out at the end of the keys, and the other lists are left as is promised
+-- the keys of the joints found at the end of a list of n places, the first in the last place, and zeros before them
+unfoldable pub handedOut : List ℕ → ℕ → List ℕ
+handedOut found n = replicate (n - length found) 0 ++ reverse found
+
+-- answered as is promised; the keys of the joints found are handed out, and the other lists are left as is promised
 pub record Asked (h : ℕ) (bytes d : List ℕ) (p : Place) (k answers : ℕ) (keys corners trailList : List ℕ) (r : Nearest) (keys′ corners′ trail′ : List ℕ) : Type 0 where
   pub number : numbersOf r ≡ nearestOf h bytes d p k (roomsOf answers keys corners trailList)
-  pub handed : Handed (jointsOf r) keys′
-  pub found : handedIn (jointsOf r) keys′ ≡ foundIn (nearestOf h bytes d p k (roomsOf answers keys corners trailList)) (answerKeys (placeOf p) h bytes k)
-  pub fits : jointsOf r ≤ answers
-  pub keys-long : length keys′ ≡ length keys
+  pub keys-left : keys′ ≡ handedOut (foundIn (nearestOf h bytes d p k (roomsOf answers keys corners trailList)) (answerKeys (placeOf p) h bytes k)) (length keys)
   pub corners-left : corners′ ≡ replicate (length corners) 0
   pub trail-left : trail′ ≡ leftIn (nearestOf h bytes d p k (roomsOf answers keys corners trailList)) (trail (placeOf p) h bytes k) (length trailList)

@@ -1,6 +1,8 @@
-// A question is asked: tested, searched, and its number lists cleared. The keys of the joints found are left for the answer list.
+// A question is asked: tested, searched, and its number lists cleared but for the keys of the joints found, which are left for the answer list.
 ghost use mathlib.Core.Path.{_≡_};
-ghost use lib.ListN.{length};
+ghost use mathlib.Core.List.{_++_};
+ghost use Prim.Native.Nat.{_-_, _≤_};
+ghost use lib.ListN.{length, drop, replicate};
 ghost use Rattle.nearest.specs.Asked.{Asked};
 ghost use Rattle.nearest.specs.Promise.{jointsOf};
 use crate::distance::Place;
@@ -23,6 +25,15 @@ pub(crate) fn joints_of(r: Nearest) -> usize
         Nearest::Found { joints, boxes: _ } => joints as usize,
         Nearest::Refused(_) => 0,
     }
+}
+
+// All places but the last n are cleared.
+fn clear_before(keys: &mut [u64], n: usize)
+    requires { ⌜ n ≤ length (now keys) ⌝ }
+    ensures { λ _. ⌜ now (keys .exit) ≡ replicate (length (now (keys .entry)) - n) 0 ++ drop (length (now (keys .entry)) - n) (now (keys .entry)) ⌝ }
+{
+    let free = keys.len() - n;
+    lent::clear_longs(&mut keys[..free]);
 }
 
 // The question without its answer list, of which it takes the room alone.
@@ -50,6 +61,7 @@ pub fn asked(
         corners.len(),
     );
     if let Gate::Shut(refusal) = g {
+        lent::clear_longs(keys);
         lent::clear_words(corners);
         lent::clear_words(trail);
         return Nearest::Refused(refusal);
@@ -57,9 +69,11 @@ pub fn asked(
     let t = find(p, height, bytes, directory, k, keys, corners, trail);
     lent::clear_words(corners);
     if trail.len() < t.opened as usize {
+        lent::clear_longs(keys);
         lent::clear_words(trail);
         return Nearest::Refused(Refusal::TrailRoom);
     }
+    clear_before(keys, t.handed as usize);
     Nearest::Found {
         joints: t.handed,
         boxes: t.opened,

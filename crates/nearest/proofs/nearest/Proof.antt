@@ -58,6 +58,7 @@ use Rattle.nearest.proofs.answer.Answer as T-Answer
 use Rattle.nearest.specs.declared.distance.Place.{Place}
 use Rattle.nearest.proofs.distance.Place as T-Place
 use Rattle.nearest.proofs.distance.Place.Laws as L-Place
+use Rattle.nearest.proofs.Handing.{asked-shows}
 use Rattle.nearest.proofs.Again.{LentAgain, lends-at, back-at}
 use Rattle.nearest.proofs.Unasked.{unasked}
 use Rattle.lent.proofs.clear_longs as clear-longs-f
@@ -105,15 +106,15 @@ Done-4 list r list′ = list′ ≡ replicate (length (list)) 0
 
 -- ---- the author's part
 asks-3 : (v-height : ℕ) (v-bytes : List ℕ) (v-directory : List ℕ) (v-row : ℤ) (v-column : ℤ) (v-k : ℕ) (v-answers : List Answer) (v-keys : List ℕ) (v-corners : List ℕ) (v-trail : List ℕ) (r1 : Nearest) (z1-6 : List ℕ) (z1-7 : List ℕ) (z1-8 : List ℕ) (r2 : ℕ) → Needs-0 v-height v-bytes v-directory v-row v-column v-k v-answers v-keys v-corners v-trail → v-height < 2 ^ 32 → length v-bytes < 2 ^ 64 → length v-bytes * 1 < 2 ^ 63 → length v-directory < 2 ^ 64 → length v-directory * 2 < 2 ^ 63 → mag v-row < 2 ^ 31 → mag v-column < 2 ^ 31 → v-k < 2 ^ 32 → length v-answers < 2 ^ 64 → length v-answers * 12 < 2 ^ 63 → length v-keys < 2 ^ 64 → length v-keys * 8 < 2 ^ 63 → length v-corners < 2 ^ 64 → length v-corners * 4 < 2 ^ 63 → length v-trail < 2 ^ 64 → length v-trail * 4 < 2 ^ 63 → Done-1 v-height v-bytes v-directory (record { row = v-row; column = v-column }) v-k (length v-answers) v-keys v-corners v-trail r1 z1-6 z1-7 z1-8 → length z1-6 ≡ length v-keys → length z1-7 ≡ length v-corners → length z1-8 ≡ length v-trail → Done-2 r1 r2 → Needs-3 z1-6 r2 v-answers
-asks-3 v-height v-bytes v-directory v-row v-column v-k v-answers v-keys v-corners v-trail r1 z1-6 z1-7 z1-8 r2 need h1 h2 h3 h4 h5 h6 h7 h8 h9 h10 h11 h12 h13 h14 h15 h16 h17 h18 h19 h20 h21 = (rw h21 (h17 .handed), rw h21 (h17 .fits))
+asks-3 v-height v-bytes v-directory v-row v-column v-k v-answers v-keys v-corners v-trail r1 z1-6 z1-7 z1-8 r2 need h1 h2 h3 h4 h5 h6 h7 h8 h9 h10 h11 h12 h13 h14 h15 h16 h17 h18 h19 h20 h21 = let s = asked-shows h17 in (rw h21 (s .handed), rw h21 (s .fits))
 
 says-nearest : (v-height : ℕ) (v-bytes : List ℕ) (v-directory : List ℕ) (v-row : ℤ) (v-column : ℤ) (v-k : ℕ) (v-answers : List Answer) (v-keys : List ℕ) (v-corners : List ℕ) (v-trail : List ℕ) (r1 : Nearest) (z1-6 : List ℕ) (z1-7 : List ℕ) (z1-8 : List ℕ) (r2 : ℕ) (r3 : Unit {0}) (z3-0 : List ℕ) (z3-2 : List Answer) (r4 : Unit {0}) (z4-0 : List ℕ) → Needs-0 v-height v-bytes v-directory v-row v-column v-k v-answers v-keys v-corners v-trail → v-height < 2 ^ 32 → length v-bytes < 2 ^ 64 → length v-bytes * 1 < 2 ^ 63 → length v-directory < 2 ^ 64 → length v-directory * 2 < 2 ^ 63 → mag v-row < 2 ^ 31 → mag v-column < 2 ^ 31 → v-k < 2 ^ 32 → length v-answers < 2 ^ 64 → length v-answers * 12 < 2 ^ 63 → length v-keys < 2 ^ 64 → length v-keys * 8 < 2 ^ 63 → length v-corners < 2 ^ 64 → length v-corners * 4 < 2 ^ 63 → length v-trail < 2 ^ 64 → length v-trail * 4 < 2 ^ 63 → Done-1 v-height v-bytes v-directory (record { row = v-row; column = v-column }) v-k (length v-answers) v-keys v-corners v-trail r1 z1-6 z1-7 z1-8 → length z1-6 ≡ length v-keys → length z1-7 ≡ length v-corners → length z1-8 ≡ length v-trail → Done-2 r1 r2 → Done-3 z1-6 r2 v-answers r3 z3-0 z3-2 → length z3-0 ≡ length z1-6 → length z3-2 ≡ length v-answers → Done-4 z3-0 r4 z4-0 → length z4-0 ≡ length z3-0 → Done-0 v-height v-bytes v-directory v-row v-column v-k v-answers v-keys v-corners v-trail r1 z3-2 z4-0 z1-7 z1-8
 says-nearest v-height v-bytes v-directory v-row v-column v-k v-answers v-keys v-corners v-trail r1 z1-6 z1-7 z1-8 r2 r3 z3-0 z3-2 r4 z4-0 need h1 h2 h3 h4 h5 h6 h7 h8 h9 h10 h11 h12 h13 h14 h15 h16 h17 h18 h19 h20 h21 h22 h23 h24 h25 h26 =
     record {
       number = h17 .number;
-      answers = h22 .0 ∙ ap (λ (l : List ℕ). filled l (length v-answers)) (ap (λ (n : ℕ). handedIn n z1-6) h21 ∙ h17 .found);
+      answers = h22 .0 ∙ ap (λ (l : List ℕ). filled l (length v-answers)) (ap (λ (n : ℕ). handedIn n z1-6) h21 ∙ asked-shows h17 .found);
       trail = h17 .trail-left;
-      keys = h25 ∙ ap (λ (n : ℕ). replicate n 0) (ap length (h22 .1) ∙ h17 .keys-long);
+      keys = h25 ∙ ap (λ (n : ℕ). replicate n 0) (ap length (h22 .1) ∙ asked-shows h17 .keys-long);
       corners = h17 .corners-left;
     }
 
