@@ -18,6 +18,7 @@ use Rattle.nearest.specs.Places.{placeOf}
 use Rattle.nearest.specs.Step.{handedIn}
 use Rattle.nearest.specs.Promise.{Rooms, workFor, roomOf, nearestOf, numbersOf, jointsOf}
 use Rattle.nearest.specs.Asked.{roomsOf, Asked}
+use Rattle.nearest.proofs.Handing.{asked-shows}
 use Rattle.lines.specs.Text.{textOf, Put}
 use Rattle.lines.specs.Report.{maxAnswers, boxesIn, askLines, AskPut}
 use Rattle.lines.proofs.Windows.{left-begins}
@@ -46,7 +47,7 @@ asked-lines h bytes d p k keys corners trailList (Found j b) keys′ corners′ 
     let way = trail (placeOf p) h bytes k in
     let served = sym (asked .number) in
     let room = nearest-served h bytes d p k (roomsOf maxAnswers keys corners trailList) j b served in
-    let found : handedIn j keys′ ≡ answerKeys (placeOf p) h bytes k = rw served at (asked .found) in
+    let found : handedIn j keys′ ≡ answerKeys (placeOf p) h bytes k = rw served at (asked-shows asked .found) in
     let opened : take b trail′ ≡ way = rw (asked .trail-left, served) (left-begins (j ∷ b ∷ []) b way (length trailList) (room .0)) in
     (room .1, rw (served, found, opened))
 asked-lines h bytes d p k keys corners trailList (Turned refusal) keys′ corners′ trail′ asked = (omega arith, rw (← asked .number))
@@ -59,7 +60,7 @@ pub ask-put : (h : ℕ) (bytes d : List ℕ) (p : Place) (k : ℕ) (keys corners
     → AskPut (nearestOf h bytes d p k (roomsOf maxAnswers keys corners trailList)) k (answerKeys (placeOf p) h bytes k) (trail (placeOf p) h bytes k) out r out′ keys cleared corners corners′ trailList trail′
 ask-put h bytes d p k keys corners trailList answer keys′ corners′ trail′ asked put e = record {
   text = rw (asked-lines h bytes d p k keys corners trailList answer keys′ corners′ trail′ asked .1) at put;
-  keys-left = rw (← asked .keys-long) e;
+  keys-left = rw (← asked-shows asked .keys-long) e;
   corners-left = asked .corners-left;
   trail-left = asked .trail-left;
 }

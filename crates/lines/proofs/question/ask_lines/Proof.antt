@@ -1,4 +1,5 @@
 use native.Mathlib.Omega.{arith}
+use Rattle.nearest.proofs.Handing.{asked-shows}
 use Rattle.lines.proofs.Questions.{asked-lines, ask-put}
 use borrow.Author.Needs.{needs}
 use Rattle.lines.proofs.question.ask_lines.Statement.{statement}
@@ -12,7 +13,8 @@ put-answer-requires c κs =
     let g = c .before .before .before .before .before .before .before .before .before .before .before .before .before .before .before .before .before .before .before .args in
     let e = c .before .before .before .before .before .before .before .before .before .asked .ensures in
     let fits = asked-lines (g .height) (g .bytes .now) (g .directory .now) (g .p) (g .k) (g .keys .now) (g .corners .now) (g .trail .now) _ _ _ _ e .0 in
-    (e .handed, e .fits, omega (arith, fits), omega (arith, fits), omega arith)
+    let shows = asked-shows e in
+    (shows .handed, shows .fits, omega (arith, fits), omega (arith, fits), omega arith)
 
 clear-longs-requires : tie.Need-clear-longs-requires
 clear-longs-requires c κs = search needs
