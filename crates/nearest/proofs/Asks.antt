@@ -15,7 +15,7 @@ use Rattle.board.specs.Limits.{maxHeight, maxJoints, maxPlace}
 use Rattle.board.specs.Levels.{joints, groups}
 use Rattle.board.specs.Check.{checkOf, firstFault, faults, enough}
 use Rattle.board.specs.Ready.{Ready}
-use Rattle.board.proofs.Valid.{both, served-valid}
+use Rattle.board.proofs.Valid.{Sound, both, served-valid}
 use Rattle.search.specs.Question.{answerKeys, trail}
 use Rattle.nearest.specs.declared.distance.Place.{Place}
 use Rattle.nearest.specs.Places.{placeOf, inRange, Named}
@@ -34,6 +34,10 @@ check-serves h bytes e =
     let four = passed 4 (enough bytes (groups h bytes)) _ (two .2) in
     let five = passed 5 (leb (length (joints h bytes)) maxJoints) _ (four .1) in
     same-served (five .1)
+
+-- a board that it serves is sound
+pub board-sound : (h : ℕ) (bytes : List ℕ) {x : List ℕ} → checkOf h bytes ≡ Served x → Sound h bytes (length (joints h bytes)) (groups h bytes)
+board-sound h bytes e = served-valid h bytes (length (joints h bytes)) (groups h bytes) (e ∙ ap Served (check-serves h bytes e))
 
 -- what passes is refused later or served; what does not is refused, whatever would be answered
 pub pass-refused : {A B : Type 0} (a : Answer A) (n : ℕ) (t : Bool) (q : Answer Bool) (rest : Answer B) {m : ℕ} → (a then n unless t then q) ≡ Refused m → (a then n unless t then q then rest) ≡ Refused m
@@ -77,8 +81,7 @@ module _ (h : ℕ) (bytes d : List ℕ) (p : Place) (k : ℕ) (r : Rooms) where
   -- what the tests show
   may : {x : List ℕ} {y : Bool} → checkOf h bytes ≡ Served x → alike d (directoryOf bytes) ≡ true → roomOf p k (workFor h bytes) r ≡ Served y → May h bytes d p k r
   may board ranked room =
-      let serves : checkOf h bytes ≡ Served (length (joints h bytes) ∷ groups h bytes ∷ []) = board ∙ ap Served (check-serves h bytes board) in
-      let s = served-valid h bytes (length (joints h bytes)) (groups h bytes) serves in
+      let s = board-sound h bytes board in
       let seven = passed 7 (inRange p) _ room in
       let eight = passed 8 (leb 1 k && leb k maxWanted) _ (seven .1) in
       let nine = passed 9 (leb k (r .answers)) _ (eight .1) in

@@ -1,44 +1,26 @@
--- What the promise of a question comes to: what is pending has room; a trail that is too long is refused exactly then; and entries come in the order of
--- their keys.
+-- What the promise of a question comes to: what is pending has room, no joint is too far off, and entries come in the order of their keys.
 use Prim.Native.Nat.{ℕ, _+_, _*_, _≤_, _<_, max}
-use mathlib.Core.Bool.{true}
 use mathlib.Core.Logic.{_↔_}
-use mathlib.Core.Path.{_≡_, sym, _∙_}
+use mathlib.Core.Path.{_≡_}
 use mathlib.Core.List.{List}
-use lib.ListN.{length}
 use lib.IntN.{natAbs}
-use Rattle.refusal.specs.Answer.{Served, Refused}
-use Rattle.refusal.proofs.Answers.{not-both}
-use Rattle.order.proofs.Cases.{leb-cases}
 use Rattle.order.proofs.Bag.{Each}
 use Rattle.board.specs.Limits.{maxHeight, maxPlace}
 use Rattle.board.specs.Levels.{Box}
 use Rattle.board.proofs.Under.{Within}
 use Rattle.search.specs.Near.{Place, near}
 use Rattle.search.specs.Keys.{key, distanceOf}
-use Rattle.search.specs.Question.{answerKeys, trail}
+use Rattle.search.specs.Question.{answerKeys}
 use Rattle.search.proofs.Keys.{Fits, Earlier, earlier-less, less-earlier, same-key}
 use Rattle.search.proofs.Near.{near-quarter}
 use Rattle.search.proofs.Distances.{maxDistance, answer-near}
-use Rattle.nearest.specs.declared.distance.Place as question
 use Rattle.nearest.specs.declared.step.Tally.{Tally}
-use Rattle.nearest.specs.Places.{placeOf}
 use Rattle.nearest.specs.Step.{Searching}
-use Rattle.nearest.specs.Promise.{Rooms, nearestOf}
 use Rattle.nearest.proofs.Steps.{pending-within}
-use Rattle.nearest.proofs.Asks.{passOf′, refused-short, served-fits}
 
 -- at each step of a search, what is pending and what is handed out are never more than the joints, and one on an empty board
 pub pending-has-room : {p : Place} {bytes d : List ℕ} {t : Tally} {keys corners : List ℕ} (s : Searching p bytes d t keys corners) → t .pending + t .handed ≤ max 1 (s .joints)
 pending-has-room s = pending-within s
-
--- a question that passes every other test is refused by 11 exactly when its trail is longer than the trail list
-pub eleven-exactly : (h : ℕ) (bytes d : List ℕ) (p : question.Place) (k : ℕ) (r : Rooms) → passOf′ h bytes d p k r ≡ Served true
-    → (nearestOf h bytes d p k r ≡ Refused 11) ↔ (r .trail < length (trail (placeOf p) h bytes k))
-eleven-exactly h bytes d p k r e = (
-  λ refused. leb-cases (length (trail (placeOf p) h bytes k)) (r .trail) (λ fits t. absurd (not-both (sym refused ∙ served-fits h bytes d p k r e fits))) (λ more t. more),
-  refused-short h bytes d p k r e,
-)
 
 -- a quarter is not nearer than its box
 pub quarter-no-nearer : (p : Place) (s : ℕ) {q b : Box} → Within 2 q b → near p (2 * s) b ≤ near p s q
