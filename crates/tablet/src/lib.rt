@@ -16,6 +16,9 @@ use measure::Reading;
 use sheet::MAX_RECORDS;
 use sheet::Sheeted;
 
+// The number of a served call.
+const SERVED: u32 = 0;
+
 // A measure of five bytes, as 012,5, in half millimetres.
 #[no_mangle]
 pub extern "C" fn joint_board_read_measure(text: &[u8], value: &mut u32) -> u32
@@ -24,7 +27,7 @@ pub extern "C" fn joint_board_read_measure(text: &[u8], value: &mut u32) -> u32
     match measure::read(text) {
         Reading::Value(n) => {
             *value = n;
-            0
+            SERVED
         }
         Reading::Refused(refusal) => {
             *value = 0;
@@ -35,16 +38,16 @@ pub extern "C" fn joint_board_read_measure(text: &[u8], value: &mut u32) -> u32
 
 // A marked measure of six bytes, as -000,5, in half millimetres.
 #[no_mangle]
-pub extern "C" fn joint_board_read_marked(text: &[u8], value: &mut i32) -> u32
-    ensures { λ r. ⌜ (r ≡ numberIn (readMarkedOf (now (text .entry)))) × (now (value .exit) ≡ valueIn (pos 0) (readMarkedOf (now (text .entry)))) ⌝ }
+pub extern "C" fn joint_board_read_marked(text: &[u8], signed: &mut i32) -> u32
+    ensures { λ r. ⌜ (r ≡ numberIn (readMarkedOf (now (text .entry)))) × (now (signed .exit) ≡ valueIn (pos 0) (readMarkedOf (now (text .entry)))) ⌝ }
 {
     match measure::read_marked(text) {
-        Marked::Value(n) => {
-            *value = n;
-            0
+        Marked::Value(z) => {
+            *signed = z;
+            SERVED
         }
         Marked::Refused(refusal) => {
-            *value = 0;
+            *signed = 0;
             refusal.number()
         }
     }
@@ -67,7 +70,7 @@ pub extern "C" fn joint_board_check(
         } => {
             *joints = j;
             *boxes = b;
-            0
+            SERVED
         }
         Checked::Refused(refusal) => {
             *joints = 0;
@@ -105,7 +108,7 @@ pub extern "C" fn joint_board_build(
             *boxes = b;
             *size = l;
             *offset = q;
-            0
+            SERVED
         }
         Sheeted::Refused {
             refusal,

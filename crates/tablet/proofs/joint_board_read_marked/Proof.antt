@@ -14,8 +14,8 @@ use Rattle.tablet.proofs.joint_board_read_marked.Tie as tie
 read-marked-requires : tie.Need-read-marked-requires
 read-marked-requires c κs = search needs
 
-enum-known-n : tie.Need-enum-known-n
-enum-known-n c = search needs
+enum-known-z : tie.Need-enum-known-z
+enum-known-z c = search needs
 
 enum-known-refusal : tie.Need-enum-known-refusal
 enum-known-refusal c = search needs
@@ -25,8 +25,8 @@ number-requires c κs = search needs
 
 returns : tie.Need-returns
 returns c =
-    let z = c .before .n .given .0 .0 in
-    let read : readMarkedOf (now (c .before .before .before .before .before .args .text)) ≡ Served z = sym (c .before .before .before .read-marked .ensures) ∙ ap markedOf (c .before .n .given .1) in
+    let z = c .before .z .given .0 .0 in
+    let read : readMarkedOf (now (c .before .before .before .before .before .args .text)) ≡ Served z = sym (c .before .before .before .read-marked .ensures) ∙ ap markedOf (c .before .z .given .1) in
     rw read (refl, back z (omega (arith, written-read-marked _ z read .1)))
 
 returns-2 : tie.Need-returns-2
@@ -37,7 +37,7 @@ joint-board-read-marked-spec =
     tie.close
     (tie.spec
     read-marked-requires
-    enum-known-n
+    enum-known-z
     enum-known-refusal
     number-requires
     returns
