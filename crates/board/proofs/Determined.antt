@@ -9,11 +9,8 @@ use Rattle.board.specs.declared.check.Checked.{Checked}
 use Rattle.board.specs.declared.check.Checked.the-variants.{Board, Refused as NotChecked}
 use Rattle.board.specs.declared.member.Membership.{Membership}
 use Rattle.board.specs.declared.member.Membership.the-variants.{Stored, Absent, Refused as NotMember}
-use Rattle.board.specs.declared.window.Windowed.{Windowed}
-use Rattle.board.specs.declared.window.Windowed.the-variants.{Cells, Refused as NotShown}
 use Rattle.board.specs.Numbers.{numbersOf}
 use Rattle.board.specs.Member.{memberNumbers}
-use Rattle.board.specs.Window.{windowNumbers}
 use Rattle.board.proofs.side as side-fn
 use Rattle.board.proofs.side.Reads as side
 use Rattle.board.proofs.check.check as check-fn
@@ -26,8 +23,6 @@ use Rattle.board.proofs.member.on_board as on-board-fn
 use Rattle.board.proofs.member.on_board.Reads as on-board
 use Rattle.board.proofs.member.member as member-fn
 use Rattle.board.proofs.member.member.Reads as member
-use Rattle.board.proofs.window.window as window-fn
-use Rattle.board.proofs.window.window.Reads as window
 
 -- ---- answers with the same numbers are equal
 
@@ -48,12 +43,6 @@ members-alike (NotMember a) Stored e = absurd (not-both e)
 members-alike (NotMember a) Absent e = absurd (not-both e)
 members-alike (NotMember a) (NotMember b) e = ap NotMember (same-refusal a b e)
 
-pub windows-alike : (r s : Windowed) → windowNumbers r ≡ windowNumbers s → r ≡ s
-windows-alike (Cells n) (Cells m) e = cc
-windows-alike (Cells n) (NotShown b) e = absurd (not-both (sym e))
-windows-alike (NotShown a) (Cells n) e = absurd (not-both e)
-windows-alike (NotShown a) (NotShown b) e = ap NotShown (same-refusal a b e)
-
 -- ---- the entries
 
 pub check-determined : Determines check-fn.ended check.Asked check.Learnt
@@ -65,12 +54,6 @@ make-directory-determined κs a asked x y left other p q =
 
 pub member-determined : Determines member-fn.ended member.Asked member.Learnt
 member-determined κs a asked x y left other p q = (members-alike x y (p ∙ sym q), refl)
-
-pub window-determined : Determines window-fn.ended window.Asked window.Learnt
-window-determined κs a asked x y left other p q =
-    let rows = p .rows-left ∙ sym (q .rows-left) in
-    let columns = p .columns-left ∙ sym (q .columns-left) in
-    (windows-alike x y (p .returned ∙ sym (q .returned)), λ i. (tt, (tt, (tt, (tt, (tt, (tt, (tt, (rows i, (columns i, tt))))))))))
 
 -- ---- and what other crates call
 

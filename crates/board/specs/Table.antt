@@ -1,4 +1,4 @@
--- The sentences of the table "Numbers of refusal" of document 01 that speak of a board, its directory, a cell and a window. proofs/Exactly.antt and
+-- The sentences of the table "Numbers of refusal" of document 01 that speak of a board, its directory and a cell. proofs/Exactly.antt and
 -- ExactlyAsked.antt have each number given exactly when they say.
 use Prim.Native.Nat.{ℕ, _+_, _*_, _/_, _^_, _≤_, _<_}
 use mathlib.Core.Path.{_≡_}
@@ -9,7 +9,6 @@ use Rattle.bitmap.specs.Bits.{bitAt, groupAt}
 use Rattle.bitmap.specs.Directory.{blocks, directoryOf}
 use Rattle.board.specs.Limits.{maxHeight}
 use Rattle.board.specs.Levels.{groups}
-use Rattle.board.specs.Window.{Window}
 
 -- 1: the height is 1 to 10
 abbrev pub HeightServed : ℕ → Type 0
@@ -50,10 +49,6 @@ WrongEntry directory bytes = (k : ℕ) × (k < blocks (length bytes)) × (getD d
 -- 12: the cell is on the board
 abbrev pub CellOn : ℕ → ℕ → ℕ → Type 0
 CellOn h r c = (r < 2 ^ h) × (c < 2 ^ h)
-
--- 12: the window's ends are on the board, and no lowest is above its highest
-abbrev pub WindowOn : ℕ → Window → Type 0
-WindowOn h w = CellOn h (w .top) (w .left) × CellOn h (w .bottom) (w .right) × (w .top ≤ w .bottom) × (w .left ≤ w .right)
 
 -- nothing before refuses: this is served
 abbrev pub Serves : {A : Type 0} → Answer A → Type 0

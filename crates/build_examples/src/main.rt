@@ -6,9 +6,9 @@ use board::check::check;
 use board::directory::make_directory;
 use board::member::Membership;
 use board::member::member;
-use board::window::Windowed;
-use board::window::window;
 use build::Built;
+use window::Windowed;
+use window::window;
 
 mod lists;
 

@@ -12,9 +12,9 @@ use Rattle.bitmap.specs.Directory.{directoryOf, alike}
 use Rattle.board.specs.Limits.{maxJoints}
 use Rattle.board.specs.Levels.{joints}
 use Rattle.board.specs.Check.{checkOf}
-use Rattle.board.specs.Window.{Window, inside, found, endsFit, roomed, windowOf}
+use Rattle.window.specs.Window.{Window, inside, found, endsFit, roomed, windowOf}
 use Rattle.board.proofs.Valid.{both, served-valid}
-use Rattle.board.proofs.Listing.{keep-le}
+use Rattle.window.proofs.Listing.{keep-le}
 use Rattle.search.specs.Question.{answerKeys, trail}
 use Rattle.nearest.specs.declared.distance.Place.{Place}
 use Rattle.nearest.specs.Places.{placeOf, inRange}

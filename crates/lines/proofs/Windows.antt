@@ -13,8 +13,8 @@ use Rattle.refusal.proofs.Answers.{passed, went-on}
 use Rattle.bitmap.specs.Directory.{directoryOf, alike}
 use Rattle.board.specs.Levels.{Box}
 use Rattle.board.specs.Check.{checkOf}
-use Rattle.board.specs.declared.window.Windowed.{Windowed}
-use Rattle.board.specs.Window.{Window, endsFit, found, roomed, windowOf, rowOf, columnOf, Shown}
+use Rattle.window.specs.declared.Windowed.{Windowed}
+use Rattle.window.specs.Window.{Window, endsFit, found, roomed, windowOf, rowOf, columnOf, Shown}
 use Rattle.board.proofs.Valid.{both}
 use Rattle.lines.specs.Text.{bytesOf, textOf, Put}
 use Rattle.lines.specs.Lines.{winLine, inLines, noLine}

@@ -5,7 +5,7 @@ use mathlib.Core.List.{List, [], _∷_, _++_, map}
 use lib.ListN.{length, replicate}
 use Rattle.refusal.specs.Answer.{Answer, Served, Refused, leftIn}
 use Rattle.board.specs.Levels.{Box}
-use Rattle.board.specs.Window as window
+use Rattle.window.specs.Window as window
 use Rattle.search.specs.Keys.{rowOf, colOf, distanceOf}
 use Rattle.nearest.specs.declared.ask.Nearest.{Nearest}
 use Rattle.nearest.specs.declared.ask.Nearest.the-variants.{Found, Refused as Turned}

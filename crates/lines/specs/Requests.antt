@@ -4,7 +4,7 @@ use mathlib.Core.Path.{_≡_}
 use mathlib.Core.List.{List, [], _∷_}
 use lib.ListN.{length}
 use Rattle.refusal.specs.Answer.{Answer, Served, Refused}
-use Rattle.board.specs.Window.{ends, found, windowOf}
+use Rattle.window.specs.Window.{ends, found, windowOf}
 use Rattle.search.specs.Question.{answerKeys, trail}
 use Rattle.nearest.specs.declared.distance.Place.{Place}
 use Rattle.nearest.specs.Places.{placeOf}

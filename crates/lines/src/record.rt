@@ -3,15 +3,15 @@ ghost use mathlib.Core.List.{_∷_};
 ghost use Prim.Native.Nat.{_≤_};
 ghost use lib.ListN.{length, take};
 ghost use Rattle.board.specs.Limits.{maxJoints};
-ghost use Rattle.board.specs.Window.{ends, found, windowOf};
+ghost use Rattle.window.specs.Window.{ends, found, windowOf};
 ghost use Rattle.lines.specs.Text.{textOf, Put};
 ghost use Rattle.lines.specs.Lines.{winLine, inLines};
 ghost use Rattle.lines.specs.Report.{room, WindowPut};
 use crate::line::put_ins;
 use crate::line::put_no;
 use crate::line::put_win;
-use board::window::Windowed;
-use board::window::window;
+use window::Windowed;
+use window::window;
 
 // The lines of so many cells, the first of two lists.
 fn put_cells(count: u32, rows: &[u32], columns: &[u32], out: &mut [u8]) -> usize

@@ -1,6 +1,6 @@
 // Windows on small boards: one line for each, the ends, what is answered, and what is left in the two lists.
-use board::window::Windowed;
-use board::window::window;
+use window::Windowed;
+use window::window;
 
 fn say_windowed(answer: Windowed) {
     match answer {

@@ -2,7 +2,7 @@ use mathlib.Core.Path.{_≡_, ap, sym, _∙_}
 use native.Mathlib.Omega.{arith}
 use lib.ListN.{length}
 use Rattle.refusal.specs.Answer.{Refused}
-use Rattle.board.specs.Window.{ends, windowNumbers}
+use Rattle.window.specs.Window.{ends, windowNumbers}
 use Rattle.lines.specs.Lines.{noLine}
 use Rattle.lines.proofs.Room.{one-word, line-short}
 use Rattle.lines.proofs.Windows.{window-room, window-put, window-refused}

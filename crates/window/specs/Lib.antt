@@ -1,0 +1,4 @@
+pub mod Window
+pub mod Span
+pub mod Listing
+pub mod Table
