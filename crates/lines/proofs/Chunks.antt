@@ -7,10 +7,10 @@ use lib.ListN.{length, getD}
 use borrow.Author.Tests.{lt-ltb, le-ltb}
 use Rattle.refusal.specs.Answer.{Answer, Served, Refused}
 use Rattle.order.proofs.Total.{flatMap-append}
-use Rattle.sheet.specs.declared.kind.Stage.the-variants.{Requests}
-use Rattle.sheet.specs.declared.record.Record.{Record}
-use Rattle.sheet.specs.declared.record.Record.the-variants.{Board, Joint, Question, Window, End}
-use Rattle.sheet.specs.Records.{recordAt, kindIn, nextAfter}
+use Rattle.records.specs.declared.kind.Stage.the-variants.{Requests}
+use Rattle.records.specs.declared.record.Record.{Record}
+use Rattle.records.specs.declared.record.Record.the-variants.{Board, Joint, Question, Window, End}
+use Rattle.records.specs.Records.{recordAt, kindIn, nextAfter}
 use Rattle.sheet.specs.Sheet.{Accepted, RefusedAt, maxRecords, maxBytes, heightAfter}
 use Rattle.sheet.specs.Promise.{readOf, bitmapIn}
 use Rattle.sheet.proofs.Scanning.{read-as}

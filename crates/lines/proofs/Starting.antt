@@ -12,12 +12,12 @@ use Rattle.refusal.specs.Answer.{Answer, Served, Refused, _unless_, leftIn}
 use Rattle.board.specs.Code.{codeOf}
 use Rattle.build.specs.Build.{bitmapOf}
 use Rattle.build.specs.Answers.{codesBuiltOf}
-use Rattle.sheet.specs.declared.kind.Stage.{Stage}
-use Rattle.sheet.specs.declared.kind.Stage.the-variants.{Start}
-use Rattle.sheet.specs.declared.record.Record.{Record}
-use Rattle.sheet.specs.declared.record.Record.the-variants.{Board as BoardOf, Joint, Question, Window, End}
-use Rattle.sheet.specs.Kinds.{stageAfter}
-use Rattle.sheet.specs.Records.{recordAt, kindIn, nextAfter}
+use Rattle.records.specs.declared.kind.Stage.{Stage}
+use Rattle.records.specs.declared.kind.Stage.the-variants.{Start}
+use Rattle.records.specs.declared.record.Record.{Record}
+use Rattle.records.specs.declared.record.Record.the-variants.{Board as BoardOf, Joint, Question, Window, End}
+use Rattle.records.specs.Kinds.{stageAfter}
+use Rattle.records.specs.Records.{recordAt, kindIn, nextAfter}
 use Rattle.sheet.specs.Sheet.{Verdict, Accepted, RefusedAt, offset, _onward_, heightAfter, withRest, records, sheetOf, maxSheet, maxRecords, maxBytes, heightIn, cellsIn}
 use Rattle.sheet.specs.Promise.{boardOf, readOf, bitmapIn, Promise}
 use Rattle.sheet.specs.declared.Sheeted.{Sheeted}

@@ -9,10 +9,10 @@ use Rattle.search.specs.Question.{answerKeys, trail}
 use Rattle.nearest.specs.declared.distance.Place.{Place}
 use Rattle.nearest.specs.Places.{placeOf}
 use Rattle.nearest.specs.Promise.{Rooms, nearestOf}
-use Rattle.sheet.specs.declared.record.Record.{Record}
-use Rattle.sheet.specs.declared.record.Record.the-variants.{Board, Joint, Question, Window, End}
-use Rattle.sheet.specs.declared.kind.Stage.the-variants.{Requests}
-use Rattle.sheet.specs.Records.{recordAt, nextAfter}
+use Rattle.records.specs.declared.record.Record.{Record}
+use Rattle.records.specs.declared.record.Record.the-variants.{Board, Joint, Question, Window, End}
+use Rattle.records.specs.declared.kind.Stage.the-variants.{Requests}
+use Rattle.records.specs.Records.{recordAt, nextAfter}
 use Rattle.lines.specs.declared.request.Chunk.{Chunk}
 use Rattle.lines.specs.Text.{Line, textOf, Put}
 use Rattle.lines.specs.Lines.{endLine}

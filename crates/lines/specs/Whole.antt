@@ -7,9 +7,9 @@ use lib.ListN.{length, getD}
 use lib.Dec.{ltb}
 use Rattle.bitmap.specs.Directory.{directoryOf}
 use Rattle.board.specs.Limits.{maxJoints}
-use Rattle.sheet.specs.declared.kind.Stage.the-variants.{Requests}
-use Rattle.sheet.specs.declared.record.Record.{Record}
-use Rattle.sheet.specs.Records.{recordAt}
+use Rattle.records.specs.declared.kind.Stage.the-variants.{Requests}
+use Rattle.records.specs.declared.record.Record.{Record}
+use Rattle.records.specs.Records.{recordAt}
 use Rattle.sheet.specs.Sheet.{Verdict, Accepted, RefusedAt, maxRecords, maxBytes, sheetOf, heightIn, requestsIn}
 use Rattle.sheet.specs.Promise.{readOf, bitmapIn}
 use Rattle.lines.specs.Text.{Line, textOf}

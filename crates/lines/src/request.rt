@@ -11,10 +11,10 @@ use crate::line::put_end;
 use crate::question::ask_lines;
 use crate::record::window_lines;
 use nearest::distance::Place;
-use sheet::kind::Stage;
-use sheet::record::Record;
-use sheet::record::Recorded;
-use sheet::record::record_at;
+use records::kind::Stage;
+use records::record::Record;
+use records::record::Recorded;
+use records::record::record_at;
 
 // How many bytes of lines there are, and the offset of the next record.
 pub struct Chunk {

@@ -16,9 +16,9 @@ use Rattle.board.specs.Levels.{groups}
 use Rattle.board.specs.Code.{codeOf}
 use Rattle.build.specs.Build.{onceEach, setOf, bitmapOfCodes, bitmapOf}
 use Rattle.build.specs.Answers.{codesBuiltOf}
-use Rattle.sheet.specs.declared.kind.Stage.{Stage}
-use Rattle.sheet.specs.declared.record.Record.{Record}
-use Rattle.sheet.specs.Records.{recordAt}
+use Rattle.records.specs.declared.kind.Stage.{Stage}
+use Rattle.records.specs.declared.record.Record.{Record}
+use Rattle.records.specs.Records.{recordAt}
 use Rattle.sheet.specs.Sheet.{Verdict, Accepted, RefusedAt, offset, _onward_, maxSheet, sheetOf, heightIn, cellsIn, afterJoints}
 use Rattle.sheet.specs.Promise.{boardOf, readOf}
 use Rattle.sheet.specs.Table.{LookedAt, Fault, wrong, no-end, bytes-after, At, UnknownKind, OutOfPlace, CutShort, WholeBody, NotMeasures, JointOff, HeightOff, NoEnd, BytesAfter}

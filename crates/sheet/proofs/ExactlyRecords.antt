@@ -18,15 +18,15 @@ use Rattle.board.specs.Member.{onBoard}
 use Rattle.board.specs.Table.{HeightServed, CellOn}
 use Rattle.board.proofs.Valid.{both}
 use Rattle.board.proofs.Refused.{past-test, by-test}
-use Rattle.sheet.specs.declared.kind.Kind.{Kind}
-use Rattle.sheet.specs.declared.kind.Kind.the-variants.{Board, Joint, Question, Window, End}
-use Rattle.sheet.specs.declared.kind.Stage.{Stage}
-use Rattle.sheet.specs.declared.record.Record.{Record}
-use Rattle.sheet.specs.declared.record.Record.the-variants.{Joint as JointAt}
-use Rattle.sheet.specs.Kinds.{kindOf, bodyLength, inPlace}
-use Rattle.sheet.specs.Records.{measureAt, markedAt, bodyOf, recordAt}
+use Rattle.records.specs.declared.kind.Kind.{Kind}
+use Rattle.records.specs.declared.kind.Kind.the-variants.{Board, Joint, Question, Window, End}
+use Rattle.records.specs.declared.kind.Stage.{Stage}
+use Rattle.records.specs.declared.record.Record.{Record}
+use Rattle.records.specs.declared.record.Record.the-variants.{Joint as JointAt}
+use Rattle.records.specs.Kinds.{kindOf, bodyLength, inPlace}
+use Rattle.records.specs.Records.{measureAt, markedAt, bodyOf, recordAt}
 use Rattle.sheet.specs.Table.{UnknownKind, OutOfPlace, CutShort, WholeBody, NoMeasure, NoMarked, NotMeasures, JointOff, HeightOff}
-use Rattle.sheet.proofs.Recording.{no-kind, out-of-place, cut-short, by-body}
+use Rattle.records.proofs.Recording.{no-kind, out-of-place, cut-short, by-body}
 use Rattle.sheet.proofs.Shape.{fails}
 use Rattle.sheet.proofs.Refusals.{ofBody, by-body-of, by-kind}
 

@@ -10,12 +10,12 @@ use lib.Dec.{eqb}
 use borrow.Author.Tests.{le-leb, lt-ltb, le-ltb, ne-eqb, eqb-false}
 use Rattle.refusal.specs.Answer.{Answer, Served, Refused, _unless_}
 use Rattle.order.proofs.Cases.{ltb-cases}
-use Rattle.sheet.specs.declared.kind.Stage.{Stage}
-use Rattle.sheet.specs.declared.kind.Stage.the-variants.{Start}
-use Rattle.sheet.specs.declared.record.Record.{Record}
-use Rattle.sheet.specs.declared.record.Record.the-variants.{End}
-use Rattle.sheet.specs.Kinds.{stageAfter}
-use Rattle.sheet.specs.Records.{recordAt, kindIn, nextAfter}
+use Rattle.records.specs.declared.kind.Stage.{Stage}
+use Rattle.records.specs.declared.kind.Stage.the-variants.{Start}
+use Rattle.records.specs.declared.record.Record.{Record}
+use Rattle.records.specs.declared.record.Record.the-variants.{End}
+use Rattle.records.specs.Kinds.{stageAfter}
+use Rattle.records.specs.Records.{recordAt, kindIn, nextAfter}
 use Rattle.sheet.specs.Sheet.{Verdict, Accepted, RefusedAt, offset, _onward_, heightAfter, withRest, records, sheetOf, maxSheet}
 use Rattle.sheet.specs.Scan.{isEnd}
 use Rattle.sheet.specs.Table.{LookedAt, first, next, Fault, wrong, no-end, bytes-after}

@@ -1,5 +1,3 @@
-pub mod Marked
-pub mod Recording
 pub mod Scanning
 pub mod Shape
 pub mod Filling

@@ -20,7 +20,7 @@ use Rattle.build.specs.Answers.{codesBuiltOf}
 use Rattle.build.specs.Promise.{Kept}
 use Rattle.build.proofs.Building.{codes-small}
 use Rattle.sheet.specs.declared.Sheeted.the-variants.{Board, Refused as Turned}
-use Rattle.sheet.specs.declared.record.Record.{Record}
+use Rattle.records.specs.declared.record.Record.{Record}
 use Rattle.sheet.specs.Sheet.{Verdict, Accepted, RefusedAt, offset, _onward_, sheetOf, heightIn, cellsIn, jointOffset}
 use Rattle.sheet.specs.Scan.{scanOf}
 use Rattle.sheet.specs.Codes.{codeAt, codesAt}

@@ -15,16 +15,16 @@ use Rattle.order.proofs.Cases.{leb-cases}
 use Rattle.board.specs.Limits.{maxHeight, maxJoints}
 use Rattle.build.specs.Build.{setOf}
 use Rattle.board.specs.Member.{onBoard}
-use Rattle.sheet.specs.declared.kind.Kind.{Kind}
-use Rattle.sheet.specs.declared.kind.Kind.the-variants.{Board, Joint, Question, Window, End}
-use Rattle.sheet.specs.declared.kind.Stage.{Stage}
-use Rattle.sheet.specs.declared.record.Record.{Record}
-use Rattle.sheet.specs.Kinds.{kindOf, knownOf, bodyLength, inPlace, stageAfter}
-use Rattle.sheet.specs.Records.{measureAt, markedAt, bodyOf, recordAt, kindIn, nextAfter}
+use Rattle.records.specs.declared.kind.Kind.{Kind}
+use Rattle.records.specs.declared.kind.Kind.the-variants.{Board, Joint, Question, Window, End}
+use Rattle.records.specs.declared.kind.Stage.{Stage}
+use Rattle.records.specs.declared.record.Record.{Record}
+use Rattle.records.specs.Kinds.{kindOf, knownOf, bodyLength, inPlace, stageAfter}
+use Rattle.records.specs.Records.{measureAt, markedAt, bodyOf, recordAt, kindIn, nextAfter}
 use Rattle.sheet.specs.Sheet.{Verdict, Accepted, RefusedAt, sheetOf, maxSheet, maxRecords, maxBytes, heightIn, cellsIn}
 use Rattle.sheet.specs.Promise.{readOf as readSheet}
 use Rattle.sheet.specs.Table.{Fault, wrong, no-end, bytes-after}
-use Rattle.sheet.proofs.Recording.{known-nothing}
+use Rattle.records.proofs.Recording.{known-nothing}
 use Rattle.sheet.proofs.Faults.{sheet-faults}
 use Rattle.sheet.proofs.Shape.{not-accepted, fails}
 use Rattle.sheet.proofs.Theorems.{joint-records, room-enough, too-many}

@@ -13,20 +13,20 @@ use Rattle.refusal.specs.Numbers.{numberOf}
 use Rattle.refusal.specs.Answer.{Answer, Served, Refused, _unless_, _then_}
 use Rattle.refusal.proofs.Answers.{not-both, passed}
 use Rattle.board.specs.Limits.{maxHeight}
-use Rattle.sheet.specs.declared.kind.Kind.{Kind}
-use Rattle.sheet.specs.declared.kind.Stage.{Stage}
-use Rattle.sheet.specs.declared.kind.Stage.the-variants.{Start}
-use Rattle.sheet.specs.declared.record.Record.{Record}
-use Rattle.sheet.specs.declared.record.Record.the-variants.{Board, Joint, Question, Window, End}
+use Rattle.records.specs.declared.kind.Kind.{Kind}
+use Rattle.records.specs.declared.kind.Stage.{Stage}
+use Rattle.records.specs.declared.kind.Stage.the-variants.{Start}
+use Rattle.records.specs.declared.record.Record.{Record}
+use Rattle.records.specs.declared.record.Record.the-variants.{Board, Joint, Question, Window, End}
 use Rattle.sheet.specs.declared.scan.Place.{Place}
 use Rattle.sheet.specs.declared.scan.Scanned.{Scanned}
 use Rattle.sheet.specs.declared.scan.Scanned.the-variants.{Sheet, Refused as NotScanned}
 use Rattle.sheet.specs.declared.scan.Going.the-variants.{On, Off}
-use Rattle.sheet.specs.Kinds.{kindOf, bodyLength, inPlace, stageAfter}
-use Rattle.sheet.specs.Records.{bodyOf, recordAt, kindIn, nextAfter, withNext}
+use Rattle.records.specs.Kinds.{kindOf, bodyLength, inPlace, stageAfter}
+use Rattle.records.specs.Records.{bodyOf, recordAt, kindIn, nextAfter, withNext}
 use Rattle.sheet.specs.Sheet.{Verdict, Accepted, RefusedAt, _onward_, heightAfter, withRest, records, sheetOf, maxSheet, heightIn, cellIn, cellsIn}
 use Rattle.sheet.specs.Scan.{scannedOf, scanOf, isEnd, startPlace, placeAfter, from, Ahead, Stepped}
-use Rattle.sheet.proofs.Recording.{went-into, kind-of-body}
+use Rattle.records.proofs.Recording.{went-into, kind-of-body}
 
 -- a record that is read, by its two parts
 pub read-parts : (at : ℕ) (a : Answer Record) (r : Record) (next : ℕ) → _≡_ {A = Answer (Record × ℕ)} (withNext at a) (Served (r, next)) → (a ≡ Served r) × (next ≡ nextAfter at r)

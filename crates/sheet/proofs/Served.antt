@@ -14,7 +14,7 @@ use Rattle.board.specs.Check.{checkOf}
 use Rattle.build.specs.Build.{onceEach, setOf, bitmapOfCodes, bitmapOf}
 use Rattle.build.specs.Answers.{codesBuiltOf}
 use Rattle.build.proofs.Theorems.{built-checks}
-use Rattle.sheet.specs.declared.record.Record.{Record}
+use Rattle.records.specs.declared.record.Record.{Record}
 use Rattle.sheet.specs.Sheet.{Accepted, offset, sheetOf, heightIn, cellsIn, afterJoints}
 use Rattle.sheet.specs.Promise.{boardOf, readOf}
 use Rattle.sheet.proofs.Shape.{Shaped, sheet-shape, went-onward, was-served}

@@ -11,16 +11,16 @@ use Rattle.refusal.specs.Answer.{Answer, Served, Refused, _unless_}
 use Rattle.refusal.proofs.Answers.{passed}
 use Rattle.board.specs.Limits.{maxHeight}
 use Rattle.board.specs.Levels.{Box}
-use Rattle.sheet.specs.declared.kind.Kind.the-variants.{Board as boardKind}
-use Rattle.sheet.specs.declared.kind.Stage.{Stage}
-use Rattle.sheet.specs.declared.kind.Stage.the-variants.{Start, Joints, Requests}
-use Rattle.sheet.specs.declared.record.Record.{Record}
-use Rattle.sheet.specs.declared.record.Record.the-variants.{Board, Joint, Question, Window, End}
-use Rattle.sheet.specs.Kinds.{inPlace, stageAfter}
-use Rattle.sheet.specs.Records.{bodyOf, recordAt, kindIn, nextAfter}
+use Rattle.records.specs.declared.kind.Kind.the-variants.{Board as boardKind}
+use Rattle.records.specs.declared.kind.Stage.{Stage}
+use Rattle.records.specs.declared.kind.Stage.the-variants.{Start, Joints, Requests}
+use Rattle.records.specs.declared.record.Record.{Record}
+use Rattle.records.specs.declared.record.Record.the-variants.{Board, Joint, Question, Window, End}
+use Rattle.records.specs.Kinds.{inPlace, stageAfter}
+use Rattle.records.specs.Records.{bodyOf, recordAt, kindIn, nextAfter}
 use Rattle.sheet.specs.Sheet.{Verdict, Accepted, RefusedAt, offset, _onward_, heightAfter, withRest, records, sheetOf, maxSheet, heightIn, cellIn, cellsIn, jointOffset, afterJoints, requestsIn}
 use Rattle.sheet.specs.Scan.{isEnd}
-use Rattle.sheet.proofs.Recording.{by-body}
+use Rattle.records.proofs.Recording.{by-body}
 use Rattle.sheet.proofs.Scanning.{read-as, before-rest, end-is}
 
 -- records stand in a sheet from a place on, on a board of height h, up to its end

@@ -16,7 +16,7 @@ use Rattle.build.specs.Answers.{codesBuiltOf}
 use Rattle.build.proofs.Theorems.{built-valid, built-joints, built-fits}
 use Rattle.sheet.specs.declared.Sheeted.{Sheeted}
 use Rattle.sheet.specs.declared.Sheeted.the-variants.{Board, Refused as Turned}
-use Rattle.sheet.specs.declared.record.Record.{Record}
+use Rattle.records.specs.declared.record.Record.{Record}
 use Rattle.sheet.specs.Sheet.{Accepted, RefusedAt, maxSheet, maxRecords, maxBytes, sheetOf, heightIn, cellsIn, afterJoints}
 use Rattle.sheet.specs.Promise.{sheetedOf, boardOf, readOf, bitmapIn, Promise}
 use Rattle.sheet.proofs.Shape.{sheet-shape, not-accepted}

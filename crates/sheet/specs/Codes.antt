@@ -3,10 +3,10 @@ use Prim.Native.Nat.{ℕ, zero, suc}
 use mathlib.Core.List.{List, [], _∷_, _++_}
 use Rattle.refusal.specs.Answer.{Answer, Served, Refused}
 use Rattle.board.specs.Code.{code}
-use Rattle.sheet.specs.declared.kind.Stage.the-variants.{Joints}
-use Rattle.sheet.specs.declared.record.Record.{Record}
-use Rattle.sheet.specs.declared.record.Record.the-variants.{Board, Joint, Question, Window, End}
-use Rattle.sheet.specs.Records.{recordAt}
+use Rattle.records.specs.declared.kind.Stage.the-variants.{Joints}
+use Rattle.records.specs.declared.record.Record.{Record}
+use Rattle.records.specs.declared.record.Record.the-variants.{Board, Joint, Question, Window, End}
+use Rattle.records.specs.Records.{recordAt}
 use Rattle.sheet.specs.Sheet.{jointOffset}
 
 -- the code of a joint's cell; another record has none

@@ -1,6 +1,3 @@
-pub mod Kinds
-pub mod Records
-pub mod Answers
 pub mod Sheet
 pub mod Scan
 pub mod Codes

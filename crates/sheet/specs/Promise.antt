@@ -11,7 +11,7 @@ use Rattle.build.specs.Build.{bitmapOf}
 use Rattle.build.specs.Answers.{codesBuiltOf}
 use Rattle.sheet.specs.declared.Sheeted.{Sheeted}
 use Rattle.sheet.specs.declared.Sheeted.the-variants.{Board, Refused as Turned}
-use Rattle.sheet.specs.declared.record.Record.{Record}
+use Rattle.records.specs.declared.record.Record.{Record}
 use Rattle.sheet.specs.Sheet.{Verdict, Accepted, RefusedAt, offset, _onward_, sheetOf, heightIn, cellsIn, afterJoints}
 
 -- the paper's numbers: of a board the height, the distinct joints, the boxes, the bitmap's length, the offset of the first record after the joints

@@ -6,16 +6,16 @@ use mathlib.Core.List.{List, [], _∷_}
 use lib.ListN.{length}
 use Rattle.refusal.specs.Numbers.{numberOf}
 use Rattle.board.specs.Limits.{maxHeight}
-use Rattle.sheet.specs.declared.kind.Stage.the-variants.{Start}
-use Rattle.sheet.specs.declared.record.Record.{Record}
-use Rattle.sheet.specs.declared.record.Record.the-variants.{Board, Joint, Question, Window, End}
+use Rattle.records.specs.declared.kind.Stage.the-variants.{Start}
+use Rattle.records.specs.declared.record.Record.{Record}
+use Rattle.records.specs.declared.record.Record.the-variants.{Board, Joint, Question, Window, End}
 use Rattle.sheet.specs.declared.scan.Scanned.{Scanned}
 use Rattle.sheet.specs.declared.scan.Scanned.the-variants.{Sheet, Refused as NotScanned}
 use Rattle.sheet.specs.declared.scan.Place.{Place}
 use Rattle.sheet.specs.declared.scan.Going.{Going}
 use Rattle.sheet.specs.declared.scan.Going.the-variants.{On, Off}
-use Rattle.sheet.specs.Kinds.{stageAfter}
-use Rattle.sheet.specs.Records.{kindIn}
+use Rattle.records.specs.Kinds.{stageAfter}
+use Rattle.records.specs.Records.{kindIn}
 use Rattle.sheet.specs.Sheet.{Verdict, Accepted, RefusedAt, _onward_, heightAfter, records, sheetOf, heightIn, cellIn, cellsIn}
 
 -- the paper's number, offset and values of a scan

@@ -5,13 +5,13 @@ use lib.ListN.{length}
 use lib.Dec.{leb, ltb, eqb}
 use Rattle.refusal.specs.Answer.{Answer, Served, Refused, _unless_}
 use Rattle.board.specs.Levels.{Box}
-use Rattle.sheet.specs.declared.record.Record.{Record}
-use Rattle.sheet.specs.declared.record.Record.the-variants.{Board, Joint, Question, Window, End}
-use Rattle.sheet.specs.declared.kind.Kind.the-variants.{Board as boardKind, Joint as jointKind}
-use Rattle.sheet.specs.declared.kind.Stage.{Stage}
-use Rattle.sheet.specs.declared.kind.Stage.the-variants.{Start}
-use Rattle.sheet.specs.Kinds.{bodyLength, stageAfter}
-use Rattle.sheet.specs.Records.{recordAt, kindIn, nextAfter}
+use Rattle.records.specs.declared.record.Record.{Record}
+use Rattle.records.specs.declared.record.Record.the-variants.{Board, Joint, Question, Window, End}
+use Rattle.records.specs.declared.kind.Kind.the-variants.{Board as boardKind, Joint as jointKind}
+use Rattle.records.specs.declared.kind.Stage.{Stage}
+use Rattle.records.specs.declared.kind.Stage.the-variants.{Start}
+use Rattle.records.specs.Kinds.{bodyLength, stageAfter}
+use Rattle.records.specs.Records.{recordAt, kindIn, nextAfter}
 
 -- the most bytes of a sheet
 unfoldable pub maxSheet : ℕ

@@ -10,14 +10,14 @@ use lib.ListN.{length, getD, take, drop}
 use Rattle.refusal.specs.Answer.{Served, Refused}
 use Rattle.measure.specs.Measure.{maxMeasure, written, writtenMarked}
 use Rattle.board.specs.Table.{HeightServed, CellOn}
-use Rattle.sheet.specs.declared.kind.Kind.{Kind}
-use Rattle.sheet.specs.declared.kind.Kind.the-variants.{Board, Joint, Question, Window, End}
-use Rattle.sheet.specs.declared.kind.Stage.{Stage}
-use Rattle.sheet.specs.declared.kind.Stage.the-variants.{Start}
-use Rattle.sheet.specs.declared.record.Record.{Record}
-use Rattle.sheet.specs.declared.record.Record.the-variants.{End as Ended}
-use Rattle.sheet.specs.Kinds.{kindOf, bodyLength, inPlace, stageAfter}
-use Rattle.sheet.specs.Records.{measureAt, recordAt, kindIn, nextAfter}
+use Rattle.records.specs.declared.kind.Kind.{Kind}
+use Rattle.records.specs.declared.kind.Kind.the-variants.{Board, Joint, Question, Window, End}
+use Rattle.records.specs.declared.kind.Stage.{Stage}
+use Rattle.records.specs.declared.kind.Stage.the-variants.{Start}
+use Rattle.records.specs.declared.record.Record.{Record}
+use Rattle.records.specs.declared.record.Record.the-variants.{End as Ended}
+use Rattle.records.specs.Kinds.{kindOf, bodyLength, inPlace, stageAfter}
+use Rattle.records.specs.Records.{measureAt, recordAt, kindIn, nextAfter}
 use Rattle.sheet.specs.Sheet.{maxSheet, heightAfter}
 use Rattle.sheet.specs.Scan.{isEnd}
 

@@ -6,11 +6,11 @@ ghost use lib.ListN.{length, drop};
 ghost use Rattle.board.specs.Limits.{maxHeight};
 ghost use Rattle.sheet.specs.Sheet.{jointOffset};
 ghost use Rattle.sheet.specs.Codes.{codeIn, codeAt, codesAt};
-use crate::kind::JOINT_BODY;
-use crate::kind::Stage;
-use crate::record::Record;
-use crate::record::Recorded;
-use crate::record::record_at;
+use records::kind::JOINT_BODY;
+use records::kind::Stage;
+use records::record::Record;
+use records::record::Recorded;
+use records::record::record_at;
 
 // The offset of the first joint record, and the bytes of each.
 pub(crate) const FIRST_JOINT: usize = 2;

@@ -7,7 +7,7 @@ ghost use Rattle.board.specs.Code.{codeOf};
 ghost use Rattle.build.specs.Build.{bitmapOf};
 ghost use Rattle.build.specs.Answers.{codesBuiltOf};
 ghost use Rattle.build.specs.Promise.{Kept};
-ghost use Rattle.sheet.specs.declared.record.Record.{Record};
+ghost use Rattle.records.specs.declared.record.Record.{Record};
 ghost use Rattle.sheet.specs.Sheet.{Accepted, sheetOf, heightIn, cellsIn};
 ghost use Rattle.sheet.specs.Promise.{Promise};
 use crate::codes::FIRST_JOINT;
@@ -19,8 +19,6 @@ use lent::clear_words;
 use refusal::Refusal;
 
 mod codes;
-pub mod kind;
-pub mod record;
 mod scan;
 
 // The most bytes of a sheet, and the most joint records that stand in so many.

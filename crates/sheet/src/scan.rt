@@ -5,10 +5,10 @@ ghost use lib.ListN.{length};
 ghost use Rattle.board.specs.Limits.{maxHeight};
 ghost use Rattle.sheet.specs.Scan.{isEnd, placeAfter, startPlace, scannedOf, scanOf, Stepped};
 use crate::MAX_SHEET;
-use crate::kind::Stage;
-use crate::record::Record;
-use crate::record::Recorded;
-use crate::record::record_at;
+use records::kind::Stage;
+use records::record::Record;
+use records::record::Recorded;
+use records::record::record_at;
 use refusal::Refusal;
 
 // What a scan says: the height and the number of joint records, or why and where the sheet is refused.

@@ -3,8 +3,8 @@ use mathlib.Core.Path.{_≡_, sym}
 use native.Mathlib.Omega.{arith}
 use lib.ListN.{length}
 use lib.Seq.{length-take-le}
-use Rattle.sheet.specs.declared.kind.Stage.the-variants.{Requests}
-use Rattle.sheet.specs.Records.{recordAt}
+use Rattle.records.specs.declared.kind.Stage.the-variants.{Requests}
+use Rattle.records.specs.Records.{recordAt}
 use Rattle.lines.proofs.Chunks.{next-on}
 use Rattle.lines.proofs.Desk.{desk-again}
 use borrow.Author.Needs.{needs}

@@ -2,9 +2,9 @@ use native.Mathlib.Omega.{arith}
 use mathlib.Core.Path.{ap, sym, _∙_}
 use mathlib.Core.List.{flatMap}
 use Rattle.refusal.specs.Numbers.{numberOf}
-use Rattle.sheet.specs.declared.kind.Stage.the-variants.{Requests}
-use Rattle.sheet.specs.Records.{recordAt}
-use Rattle.sheet.specs.Answers.{recordedOf}
+use Rattle.records.specs.declared.kind.Stage.the-variants.{Requests}
+use Rattle.records.specs.Records.{recordAt}
+use Rattle.records.specs.Answers.{recordedOf}
 use Rattle.sheet.proofs.Scanning.{read-parts, read-refused}
 use Rattle.lines.specs.Text.{textOf}
 use Rattle.lines.specs.Requests.{readLines, nextIn}

@@ -1,9 +1,9 @@
 -- The code of what is read.
 use mathlib.Core.Path.{sym, ap, _∙_}
 use borrow.Author.Needs.{needs}
-use Rattle.sheet.specs.declared.kind.Stage.the-variants.{Joints}
-use Rattle.sheet.specs.Records.{recordAt}
-use Rattle.sheet.specs.Answers.{recordedOf}
+use Rattle.records.specs.declared.kind.Stage.the-variants.{Joints}
+use Rattle.records.specs.Records.{recordAt}
+use Rattle.records.specs.Answers.{recordedOf}
 use Rattle.sheet.specs.Codes.{codeAt}
 use Rattle.sheet.proofs.Scanning.{read-parts, read-refused}
 use Rattle.sheet.proofs.codes.code_at.Statement.{statement}

@@ -3,7 +3,7 @@ use Prim.Native.Nat.{_+_}
 use mathlib.Core.Path.{_≡_}
 use native.Mathlib.Omega.{arith}
 use borrow.Author.Needs.{needs}
-use Rattle.sheet.specs.Records.{kindIn}
+use Rattle.records.specs.Records.{kindIn}
 use Rattle.sheet.specs.Sheet.{heightAfter, cellIn}
 use Rattle.sheet.specs.Scan.{placeAfter}
 use Rattle.sheet.proofs.scan.after.Statement.{statement}

@@ -3,7 +3,7 @@ use mathlib.Core.Path.{sym, ap, _∙_}
 use native.Mathlib.Omega.{arith}
 use borrow.Author.Needs.{needs}
 use borrow.Author.Tests.{not-true, not-false}
-use Rattle.sheet.specs.Answers.{recordedOf}
+use Rattle.records.specs.Answers.{recordedOf}
 use Rattle.sheet.proofs.Scanning.{next-is, stepped-refused, stepped-on, stepped-more, stepped-end}
 use Rattle.sheet.proofs.scan.step.Statement.{statement}
 use Rattle.sheet.proofs.scan.step.Tie as tie
