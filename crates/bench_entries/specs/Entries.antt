@@ -6,7 +6,7 @@ use lib.ListN.{length, replicate}
 use Rattle.refusal.specs.Answer.{leftIn}
 use Rattle.sheet.specs.Sheet.{sheetOf}
 use Rattle.sheet.specs.Promise.{readOf, bitmapIn, answerIn}
-use Rattle.lines.specs.Text.{bytesOf, Put}
+use Rattle.text.specs.Text.{bytesOf, Put}
 use Rattle.lines.specs.Start.{firstLine, toldOf}
 
 -- what is told of a board: the height, the bitmap's length and the offset of the first record after the joints; zeros where nothing is

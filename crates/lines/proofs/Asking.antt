@@ -9,10 +9,10 @@ use Rattle.search.specs.Keys.{distanceOf}
 use Rattle.nearest.specs.Answers.{Handed}
 use Rattle.nearest.specs.Step.{handedIn}
 use Rattle.nearest.proofs.Answering.{length-handed, handed-at}
-use Rattle.lines.specs.Text.{bytesOf, textOf, Put}
-use Rattle.lines.specs.Lines.{askLine, openedLine}
+use Rattle.text.specs.Text.{bytesOf, textOf, Put}
+use Rattle.text.specs.Lines.{askLine, openedLine}
 use Rattle.lines.specs.Report.{keyLine, foundLines}
-use Rattle.lines.proofs.Putting.{put-then}
+use Rattle.text.proofs.Putting.{put-then}
 
 -- as many lines as joints
 pub keys-length : (n : ℕ) (keys : List ℕ) → length (map keyLine (handedIn n keys)) ≡ n

@@ -16,7 +16,7 @@ use Rattle.sheet.specs.Promise.{readOf, bitmapIn}
 use Rattle.sheet.proofs.Scanning.{read-as}
 use Rattle.sheet.proofs.Shape.{Stand, last, more, fails}
 use Rattle.sheet.proofs.Served.{served-board}
-use Rattle.lines.specs.Text.{bytesOf, textOf}
+use Rattle.text.specs.Text.{bytesOf, textOf}
 use Rattle.lines.specs.Requests.{Desk, requestLines, readLines, nextIn}
 use Rattle.lines.specs.Start.{firstLine}
 use Rattle.lines.specs.Whole.{BoardIn, firstRequest, reportDesk, linesOf, restOf, reportOf, chunksFrom}

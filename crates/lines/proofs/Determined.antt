@@ -7,16 +7,12 @@ use Rattle.promise.specs.Determines.{Determines}
 use Rattle.lines.specs.declared.request.Chunk.{Chunk}
 use Rattle.lines.specs.declared.start.Begun.{Begun}
 use Rattle.lines.specs.declared.start.Begun.the-variants.{Board, Refused}
-use Rattle.lines.specs.Text.{Put}
+use Rattle.text.proofs.Determined.{put-one-way}
 use Rattle.lines.specs.Start.{endIn, toldIn}
 use Rattle.lines.proofs.start.first_line as first-line-fn
 use Rattle.lines.proofs.start.first_line.Reads as first-line
 use Rattle.lines.proofs.request.next_lines as next-lines-fn
 use Rattle.lines.proofs.request.next_lines.Reads as next-lines
-
--- a text is put in one way
-put-one-way : {text : List ℕ} {at r s : ℕ} {was is other : List ℕ} → Put text at was r is → Put text at was s other → (r ≡ s) × (is ≡ other)
-put-one-way p q = (p .place ∙ sym (q .place), p .bytes ∙ sym (q .bytes))
 
 -- two beginnings of as many bytes that tell the same are equal
 begun-alike : (r s : Begun) → endIn r ≡ endIn s → toldIn r ≡ toldIn s → r ≡ s

@@ -1,6 +1,3 @@
-pub mod Digits
-pub mod Putting
-pub mod Inside
 pub mod Room
 pub mod Windows
 pub mod Asking

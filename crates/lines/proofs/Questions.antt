@@ -19,7 +19,7 @@ use Rattle.nearest.specs.Step.{handedIn}
 use Rattle.nearest.specs.Promise.{Rooms, workFor, roomOf, nearestOf, numbersOf, jointsOf}
 use Rattle.nearest.specs.Asked.{roomsOf, Asked}
 use Rattle.nearest.proofs.Handing.{asked-shows}
-use Rattle.lines.specs.Text.{textOf, Put}
+use Rattle.text.specs.Text.{textOf, Put}
 use Rattle.lines.specs.Report.{maxAnswers, boxesIn, askLines, AskPut}
 use Rattle.lines.proofs.Windows.{left-begins}
 

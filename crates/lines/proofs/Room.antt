@@ -4,11 +4,11 @@ use mathlib.Core.Path.{_≡_}
 use mathlib.Core.List.{List, [], _∷_, map, flatMap}
 use native.Mathlib.Omega.{arith}
 use lib.ListN.{length, length-append, getD, take}
-use Rattle.lines.specs.Text.{Line, field, bytesOf, textOf}
+use Rattle.text.specs.Text.{Line, field, bytesOf, textOf}
 use Rattle.search.specs.Keys.{rowOf, colOf, distanceOf}
 use Rattle.lines.specs.Report.{keyLine}
-use Rattle.lines.specs.Lines.{inLine, inLines}
-use Rattle.lines.proofs.Digits.{length-decimal}
+use Rattle.text.specs.Lines.{inLine, inLines}
+use Rattle.text.proofs.Digits.{length-decimal}
 
 -- every number of a list has 32 bits
 abbrev pub Words : List ℕ → Type 0

@@ -24,8 +24,8 @@ use Rattle.sheet.specs.declared.Sheeted.{Sheeted}
 use Rattle.sheet.proofs.Shape.{was-passed}
 use Rattle.sheet.proofs.Served.{served-board}
 use Rattle.lines.specs.declared.start.Begun.the-variants.{Board, Refused as NotBegun}
-use Rattle.lines.specs.Text.{bytesOf, Put}
-use Rattle.lines.specs.Lines.{boardLine, refusedLine}
+use Rattle.text.specs.Text.{bytesOf, Put}
+use Rattle.text.specs.Lines.{boardLine, refusedLine}
 use Rattle.lines.specs.Start.{toldOf, Started}
 use Rattle.lines.specs.Whole.{BoardIn, firstRequest}
 

@@ -16,8 +16,8 @@ use Rattle.board.specs.Check.{checkOf}
 use Rattle.window.specs.declared.Windowed.{Windowed}
 use Rattle.window.specs.Window.{Window, endsFit, found, roomed, windowOf, rowOf, columnOf, Shown}
 use Rattle.board.proofs.Valid.{both}
-use Rattle.lines.specs.Text.{bytesOf, textOf, Put}
-use Rattle.lines.specs.Lines.{winLine, inLines, noLine}
+use Rattle.text.specs.Text.{bytesOf, textOf, Put}
+use Rattle.text.specs.Lines.{winLine, inLines, noLine}
 use Rattle.lines.specs.Report.{windowLines, WindowPut}
 
 -- so many cells, and room for them in both lists

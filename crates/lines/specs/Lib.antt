@@ -1,5 +1,3 @@
-pub mod Text
-pub mod Lines
 pub mod Report
 pub mod Requests
 pub mod Start

@@ -9,8 +9,8 @@ use Rattle.window.specs.Window as window
 use Rattle.search.specs.Keys.{rowOf, colOf, distanceOf}
 use Rattle.nearest.specs.declared.ask.Nearest.{Nearest}
 use Rattle.nearest.specs.declared.ask.Nearest.the-variants.{Found, Refused as Turned}
-use Rattle.lines.specs.Text.{Line, textOf, Put}
-use Rattle.lines.specs.Lines.{askLine, atLine, openedLine, winLine, inLines, noLine}
+use Rattle.text.specs.Text.{Line, textOf, Put}
+use Rattle.text.specs.Lines.{askLine, atLine, openedLine, winLine, inLines, noLine}
 
 -- enough bytes for the lines of any record
 abbrev pub room : ℕ

@@ -14,8 +14,8 @@ use Rattle.records.specs.declared.record.Record.the-variants.{Board, Joint, Que
 use Rattle.records.specs.declared.kind.Stage.the-variants.{Requests}
 use Rattle.records.specs.Records.{recordAt, nextAfter}
 use Rattle.lines.specs.declared.request.Chunk.{Chunk}
-use Rattle.lines.specs.Text.{Line, textOf, Put}
-use Rattle.lines.specs.Lines.{endLine}
+use Rattle.text.specs.Text.{Line, textOf, Put}
+use Rattle.text.specs.Lines.{endLine}
 use Rattle.lines.specs.Report.{maxAnswers, windowLines, askLines}
 
 -- what a board is asked with: its directory, and places for a window's rows and columns and for a question's lists

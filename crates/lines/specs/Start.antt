@@ -8,8 +8,8 @@ use Rattle.sheet.specs.Sheet.{Verdict, Accepted, RefusedAt, sheetOf}
 use Rattle.sheet.specs.Promise.{readOf, bitmapIn, answerIn}
 use Rattle.lines.specs.declared.start.Begun.{Begun}
 use Rattle.lines.specs.declared.start.Begun.the-variants.{Board, Refused}
-use Rattle.lines.specs.Text.{Line, bytesOf, Put}
-use Rattle.lines.specs.Lines.{boardLine, refusedLine}
+use Rattle.text.specs.Text.{Line, bytesOf, Put}
+use Rattle.text.specs.Lines.{boardLine, refusedLine}
 
 -- the first line, by what reading a sheet answers: height, joints and boxes, or the number and the offset
 abbrev pub firstLine : Verdict (List ℕ) → Line

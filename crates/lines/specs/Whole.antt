@@ -12,7 +12,7 @@ use Rattle.records.specs.declared.record.Record.{Record}
 use Rattle.records.specs.Records.{recordAt}
 use Rattle.sheet.specs.Sheet.{Verdict, Accepted, RefusedAt, maxRecords, maxBytes, sheetOf, heightIn, requestsIn}
 use Rattle.sheet.specs.Promise.{readOf, bitmapIn}
-use Rattle.lines.specs.Text.{Line, textOf}
+use Rattle.text.specs.Text.{Line, textOf}
 use Rattle.lines.specs.Report.{maxAnswers, maxTrail}
 use Rattle.lines.specs.Requests.{Desk, deskOf, requestLines, readLines, nextIn}
 use Rattle.lines.specs.Start.{firstLine, toldOf}

@@ -4,12 +4,12 @@ ghost use Prim.Native.Nat.{_≤_};
 ghost use lib.ListN.{length, take};
 ghost use Rattle.board.specs.Limits.{maxJoints};
 ghost use Rattle.window.specs.Window.{ends, found, windowOf};
-ghost use Rattle.lines.specs.Text.{textOf, Put};
-ghost use Rattle.lines.specs.Lines.{winLine, inLines};
+ghost use Rattle.text.specs.Text.{textOf, Put};
+ghost use Rattle.text.specs.Lines.{winLine, inLines};
 ghost use Rattle.lines.specs.Report.{room, WindowPut};
-use crate::line::put_ins;
-use crate::line::put_no;
-use crate::line::put_win;
+use text::line::put_ins;
+use text::line::put_no;
+use text::line::put_win;
 use window::Windowed;
 use window::window;
 

@@ -1,7 +1,7 @@
 use mathlib.Core.List.{flatMap, append-nil}
 use native.Mathlib.Omega.{arith}
-use Rattle.lines.specs.Text.{bytesOf, textOf}
-use Rattle.lines.specs.Lines.{noLine}
+use Rattle.text.specs.Text.{bytesOf, textOf}
+use Rattle.text.specs.Lines.{noLine}
 use Rattle.lines.specs.Report.{askLines}
 use Rattle.lines.proofs.Room.{one-word, line-short}
 use borrow.Author.Needs.{needs}

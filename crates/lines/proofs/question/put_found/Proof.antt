@@ -4,8 +4,8 @@ use lib.ListN.{take}
 use lib.Seq.{length-take-le}
 use Rattle.nearest.specs.Step.{handedIn}
 use Rattle.nearest.proofs.Answering.{length-handed}
-use Rattle.lines.specs.Lines.{askLine, openedLine}
-use Rattle.lines.proofs.Putting.{put-length, put-then}
+use Rattle.text.specs.Lines.{askLine, openedLine}
+use Rattle.text.proofs.Putting.{put-length, put-then}
 use Rattle.lines.proofs.Room.{three-words, words-take, line-short, keys-short}
 use Rattle.lines.proofs.Asking.{handed-small, found-put}
 use Rattle.lines.proofs.question.put_found.Statement.{statement}

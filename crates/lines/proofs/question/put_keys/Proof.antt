@@ -5,9 +5,9 @@ use native.Mathlib.Omega.{arith}
 use lib.ListN.{length, take}
 use lib.Seq.{take-length}
 use Rattle.nearest.specs.Step.{handedIn}
-use Rattle.lines.specs.Text.{bytesOf, textOf, Put}
+use Rattle.text.specs.Text.{bytesOf, textOf, Put}
 use Rattle.lines.specs.Report.{keyLine}
-use Rattle.lines.proofs.Putting.{put-none, put-next, part-fits, put-length}
+use Rattle.text.proofs.Putting.{put-none, put-next, part-fits, put-length}
 use Rattle.lines.proofs.Asking.{keys-length, keys-at}
 use borrow.Author.Needs.{needs}
 use Rattle.lines.proofs.question.put_keys.Statement.{statement}

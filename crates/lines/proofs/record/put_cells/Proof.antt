@@ -4,9 +4,9 @@ use native.Mathlib.Omega.{arith}
 use lib.ListN.{take}
 use lib.Seq.{length-take-le}
 use Rattle.board.specs.Limits.{maxJoints}
-use Rattle.lines.specs.Text.{textOf}
-use Rattle.lines.specs.Lines.{winLine}
-use Rattle.lines.proofs.Putting.{put-then, put-length}
+use Rattle.text.specs.Text.{textOf}
+use Rattle.text.specs.Lines.{winLine}
+use Rattle.text.proofs.Putting.{put-then, put-length}
 use Rattle.lines.proofs.Room.{one-word, words-take, line-short, ins-short}
 use Rattle.lines.proofs.record.put_cells.Statement.{statement}
 use Rattle.lines.proofs.record.put_cells.Tie as tie

@@ -3,7 +3,7 @@ use native.Mathlib.Omega.{arith}
 use lib.ListN.{length}
 use Rattle.refusal.specs.Answer.{Refused}
 use Rattle.window.specs.Window.{ends, windowNumbers}
-use Rattle.lines.specs.Lines.{noLine}
+use Rattle.text.specs.Lines.{noLine}
 use Rattle.lines.proofs.Room.{one-word, line-short}
 use Rattle.lines.proofs.Windows.{window-room, window-put, window-refused}
 use borrow.Author.Needs.{needs}

@@ -6,9 +6,9 @@ use Rattle.records.specs.declared.kind.Stage.the-variants.{Requests}
 use Rattle.records.specs.Records.{recordAt}
 use Rattle.records.specs.Answers.{recordedOf}
 use Rattle.sheet.proofs.Scanning.{read-parts, read-refused}
-use Rattle.lines.specs.Text.{textOf}
+use Rattle.text.specs.Text.{textOf}
 use Rattle.lines.specs.Requests.{readLines, nextIn}
-use Rattle.lines.proofs.Putting.{put-none}
+use Rattle.text.proofs.Putting.{put-none}
 use borrow.Author.Needs.{needs}
 use Rattle.lines.proofs.request.chunk_at.Statement.{statement}
 use Rattle.lines.proofs.request.chunk_at.Tie as tie

@@ -2,10 +2,10 @@ use mir.Facts.{toZ-ofZ}
 use mir.Syntax.{w32}
 use mathlib.Core.List.{flatMap, append-nil}
 use native.Mathlib.Omega.{arith}
-use Rattle.lines.specs.Text.{bytesOf, textOf}
-use Rattle.lines.specs.Lines.{endLine}
+use Rattle.text.specs.Text.{bytesOf, textOf}
+use Rattle.text.specs.Lines.{endLine}
 use Rattle.lines.specs.Requests.{questionLines, requestLines}
-use Rattle.lines.proofs.Putting.{put-none}
+use Rattle.text.proofs.Putting.{put-none}
 use Rattle.lines.proofs.Room.{line-short}
 use borrow.Author.Needs.{needs}
 use Rattle.lines.proofs.request.request_lines.Statement.{statement}

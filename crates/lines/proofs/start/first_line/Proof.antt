@@ -3,7 +3,7 @@ use native.Mathlib.Omega.{arith}
 use lib.ListN.{length}
 use Rattle.sheet.specs.Sheet.{RefusedAt, maxSheet}
 use Rattle.sheet.specs.Promise.{sheetedOf}
-use Rattle.lines.specs.Lines.{boardLine, refusedLine}
+use Rattle.text.specs.Lines.{boardLine, refusedLine}
 use Rattle.lines.proofs.Room.{two-words, three-words, line-short}
 use Rattle.lines.proofs.Starting.{offsetIn, sheet-low, started, not-started}
 use borrow.Author.Needs.{needs}

@@ -4,13 +4,13 @@ use mathlib.Core.List.{flatMap}
 use native.Mathlib.Omega.{arith}
 use lib.ListN.{length, take}
 use lib.Seq.{take-length}
-use Rattle.lines.specs.Text.{bytesOf, textOf, Put}
-use Rattle.lines.specs.Lines.{inLines, endLine}
-use Rattle.lines.proofs.Putting.{put-none, put-next, part-fits, put-length}
-use Rattle.lines.proofs.Inside.{ins-length, ins-at}
+use Rattle.text.specs.Text.{bytesOf, textOf, Put}
+use Rattle.text.specs.Lines.{inLines, endLine}
+use Rattle.text.proofs.Putting.{put-none, put-next, part-fits, put-length}
+use Rattle.text.proofs.Inside.{ins-length, ins-at}
 use borrow.Author.Needs.{needs}
-use Rattle.lines.proofs.line.put_ins.Statement.{statement}
-use Rattle.lines.proofs.line.put_ins.Tie as tie
+use Rattle.text.proofs.line.put_ins.Statement.{statement}
+use Rattle.text.proofs.line.put_ins.Tie as tie
 
 abbrev Inv-loop : tie.InvT-loop
 Inv-loop rows columns out₀ at end₀ i₀ i-end out end i =

@@ -3,16 +3,16 @@ use Prim.Native.Nat.{ℕ, _+_, _/_, _<_, _≤_}
 use mathlib.Core.Path.{_≡_, ap, _∙_}
 use native.Mathlib.Omega.{arith}
 use lib.ListN.{length, length-append}
-use Rattle.lines.specs.Text.{inDecimal}
-use Rattle.lines.proofs.Digits.{decimal-digit, decimal-more}
-use Rattle.lines.proofs.Putting.{put-one, put-then, put-length}
+use Rattle.text.specs.Text.{inDecimal}
+use Rattle.text.proofs.Digits.{decimal-digit, decimal-more}
+use Rattle.text.proofs.Putting.{put-one, put-then, put-length}
 use borrow.Fn.Kinds.{In}
 use borrow.Fn.PlainCycle.{Measures, is, falls, and}
-use Rattle.lines.proofs.text.put_decimal.Reads as put-decimal
-use Rattle.lines.proofs.text.put_decimal.Kinds as put-decimal-kinds
-use Rattle.lines.proofs.text.+put_decimal.Lts-put_decimal as put-decimal-lts
-use Rattle.lines.proofs.text.+put_decimal.{statement}
-use Rattle.lines.proofs.text.+put_decimal.Tie.{close}
+use Rattle.text.proofs.text.put_decimal.Reads as put-decimal
+use Rattle.text.proofs.text.put_decimal.Kinds as put-decimal-kinds
+use Rattle.text.proofs.text.+put_decimal.Lts-put_decimal as put-decimal-lts
+use Rattle.text.proofs.text.+put_decimal.{statement}
+use Rattle.text.proofs.text.+put_decimal.Tie.{close}
 
 -- a number has a digit more than its tenth
 one-more : (n : ℕ) → 10 ≤ n → length (inDecimal n) ≡ length (inDecimal (n / 10)) + 1

@@ -1,7 +1,7 @@
 -- The lines of a report, each by its word and its numbers.
 use Prim.Native.Nat.{ℕ}
 use mathlib.Core.List.{List, [], _∷_}
-use Rattle.lines.specs.Text.{letters, Line}
+use Rattle.text.specs.Text.{letters, Line}
 
 -- a refused sheet: the number and the offset
 abbrev pub refusedLine : ℕ → ℕ → Line

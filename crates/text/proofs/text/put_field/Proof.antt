@@ -1,10 +1,10 @@
 use native.Mathlib.Omega.{arith}
 use lib.ListN.{length-set}
-use Rattle.lines.specs.Text.{space, field}
-use Rattle.lines.proofs.Putting.{put-one, put-then, put-length}
+use Rattle.text.specs.Text.{space, field}
+use Rattle.text.proofs.Putting.{put-one, put-then, put-length}
 use borrow.Author.Needs.{needs}
-use Rattle.lines.proofs.text.put_field.Statement.{statement}
-use Rattle.lines.proofs.text.put_field.Tie as tie
+use Rattle.text.proofs.text.put_field.Statement.{statement}
+use Rattle.text.proofs.text.put_field.Tie as tie
 
 slice-write-out : tie.Need-slice-write-out
 unfolding field

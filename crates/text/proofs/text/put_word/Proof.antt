@@ -3,11 +3,11 @@ use mathlib.Core.Path.{_≡_}
 use native.Mathlib.Omega.{arith}
 use lib.ListN.{length, take}
 use lib.Seq.{take-length}
-use Rattle.lines.specs.Text.{Put}
-use Rattle.lines.proofs.Putting.{put-more, put-length}
+use Rattle.text.specs.Text.{Put}
+use Rattle.text.proofs.Putting.{put-more, put-length}
 use borrow.Author.Needs.{needs}
-use Rattle.lines.proofs.text.put_word.Statement.{statement}
-use Rattle.lines.proofs.text.put_word.Tie as tie
+use Rattle.text.proofs.text.put_word.Statement.{statement}
+use Rattle.text.proofs.text.put_word.Tie as tie
 
 abbrev Inv-loop : tie.InvT-loop
 Inv-loop word out₀ at i₀ i-end out i = (i ≤ length word) × (i-end ≡ length word) × Put (take i word) at out₀ (at + i) out

@@ -6,8 +6,8 @@ use native.Mathlib.Omega.{arith}
 use borrow.Author.Tests.{lt-ltb, le-ltb}
 use lib.ListN.{length, length-append}
 use Rattle.order.proofs.Cases.{ltb-cases}
-use Rattle.measure.specs.Measure.{nought, decimal}
-use Rattle.lines.specs.Text.{digits, inDecimal}
+use Rattle.measure.specs.Measure.{nought, ofDigits}
+use Rattle.text.specs.Text.{digits, inDecimal}
 
 -- it does not matter how many digits are enough
 enough : (j k n : ℕ) → n < j → n < k → digits j n ≡ digits k n
@@ -34,20 +34,20 @@ length-decimal (suc k) n h = ltb-cases n 10
     (λ large e. rw (decimal-more n large, length-append) (omega (arith, length-decimal k (n / 10) (omega arith))))
 
 -- the number that digits say, and then more digits
-says-append : (m : ℕ) (a b : List ℕ) → decimal m (a ++ b) ≡ decimal (decimal m a) b
-unfolding decimal
+says-append : (m : ℕ) (a b : List ℕ) → ofDigits m (a ++ b) ≡ ofDigits (ofDigits m a) b
+unfolding ofDigits
 says-append m [] b = refl
 says-append m (x ∷ a) b = says-append (10 * m + (x - nought)) a b
 
 -- the digits of n say n, if they are enough
-digits-say : (k n : ℕ) → n < k → decimal 0 (digits k n) ≡ n
-unfolding decimal digits
+digits-say : (k n : ℕ) → n < k → ofDigits 0 (digits k n) ≡ n
+unfolding ofDigits digits
 digits-say zero n h = absurd (omega arith)
 digits-say (suc k) n h = ltb-cases n 10
     (λ small e. rw e (omega arith))
     (λ large e. rw (e, says-append 0 (digits k (n / 10)) ((nought + n % 10) ∷ []), digits-say k (n / 10) (omega arith)) (omega arith))
 
 -- a number in decimal says itself
-pub decimal-says : (n : ℕ) → decimal 0 (inDecimal n) ≡ n
+pub decimal-says : (n : ℕ) → ofDigits 0 (inDecimal n) ≡ n
 unfolding inDecimal
 decimal-says n = digits-say (suc n) n (omega arith)

@@ -7,7 +7,7 @@ use native.Mathlib.Omega.{arith}
 use lib.ListN.{length, length-append, set, getD, take, drop, take-append-drop}
 use lib.Seq.{sets, length-sets, take-suc}
 use Rattle.order.proofs.Total.{flatMap-append}
-use Rattle.lines.specs.Text.{Put}
+use Rattle.text.specs.Text.{Put}
 
 -- stores of two lists in a row
 sets-append : (a b l : List ℕ) (at : ℕ) → sets l at (a ++ b) ≡ sets (sets l at a) (at + length a) b

@@ -4,11 +4,11 @@ use mathlib.Core.List.{flatMap}
 use native.Mathlib.Omega.{arith}
 use lib.ListN.{length, take}
 use lib.Seq.{take-length}
-use Rattle.lines.specs.Text.{field, Put}
-use Rattle.lines.proofs.Putting.{put-none, put-next, part-fits, put-length}
+use Rattle.text.specs.Text.{field, Put}
+use Rattle.text.proofs.Putting.{put-none, put-next, part-fits, put-length}
 use borrow.Author.Needs.{needs}
-use Rattle.lines.proofs.text.put_fields.Statement.{statement}
-use Rattle.lines.proofs.text.put_fields.Tie as tie
+use Rattle.text.proofs.text.put_fields.Statement.{statement}
+use Rattle.text.proofs.text.put_fields.Tie as tie
 
 abbrev Inv-loop : tie.InvT-loop
 Inv-loop numbers out₀ at end₀ i₀ i-end out end i =

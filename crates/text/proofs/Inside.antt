@@ -4,8 +4,8 @@ use mathlib.Core.Path.{_≡_, refl, ap}
 use mathlib.Core.List.{List, [], _∷_}
 use native.Mathlib.Omega.{arith}
 use lib.ListN.{length, getD}
-use Rattle.lines.specs.Text.{Line}
-use Rattle.lines.specs.Lines.{inLine, inLines}
+use Rattle.text.specs.Text.{Line}
+use Rattle.text.specs.Lines.{inLine, inLines}
 
 -- as many as there are rows
 pub ins-length : (rows columns : List ℕ) → length rows ≡ length columns → length (inLines rows columns) ≡ length rows

@@ -3,10 +3,10 @@ use mathlib.Core.Path.{_≡_}
 use mathlib.Core.List.{List, flatMap}
 use native.Mathlib.Omega.{arith}
 use lib.ListN.{length, length-append, length-set}
-use Rattle.lines.specs.Text.{lineFeed, field, bytesOf}
-use Rattle.lines.proofs.Putting.{put-one, put-then, put-length}
-use Rattle.lines.proofs.text.put_line.Statement.{statement}
-use Rattle.lines.proofs.text.put_line.Tie as tie
+use Rattle.text.specs.Text.{lineFeed, field, bytesOf}
+use Rattle.text.proofs.Putting.{put-one, put-then, put-length}
+use Rattle.text.proofs.text.put_line.Statement.{statement}
+use Rattle.text.proofs.text.put_line.Tie as tie
 
 -- the bytes of a line
 line-length : (word numbers : List ℕ) → length (bytesOf (record { word = word; numbers = numbers })) ≡ length word + length (flatMap field numbers) + 1
