@@ -12,14 +12,14 @@ ghost use Rattle.nearest.specs.Asked.{roomsOf};
 ghost use Rattle.nearest.specs.Answers.{Handed};
 ghost use Rattle.text.specs.Text.{bytesOf, textOf, Fits, Put};
 ghost use Rattle.lines.specs.Report.{room, maxAnswers, maxTrail, keyLine, boxesIn, foundLines, askLines, AskPut};
-use text::line::put_ask;
-use text::line::put_at;
-use text::line::put_no;
-use text::line::put_opened;
 use nearest::answer::answer_of;
 use nearest::ask::Nearest;
 use nearest::ask::asked;
 use nearest::distance::Place;
+use text::line::put_ask;
+use text::line::put_at;
+use text::line::put_no;
+use text::line::put_opened;
 
 // The most joints that are found for a question.
 pub(crate) const MAX_ANSWERS: usize = 255;

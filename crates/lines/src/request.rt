@@ -7,7 +7,6 @@ ghost use Rattle.text.specs.Text.{textOf, Put};
 ghost use Rattle.lines.specs.Report.{room, maxTrail};
 ghost use Rattle.lines.specs.Requests.{deskOf, requestLines, Chunked};
 ghost use Rattle.lines.specs.Whole.{OnDesk, reportDesk};
-use text::line::put_end;
 use crate::question::ask_lines;
 use crate::record::window_lines;
 use nearest::distance::Place;
@@ -15,6 +14,7 @@ use records::kind::Stage;
 use records::record::Record;
 use records::record::Recorded;
 use records::record::record_at;
+use text::line::put_end;
 
 // How many bytes of lines there are, and the offset of the next record.
 pub struct Chunk {

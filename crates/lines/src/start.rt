@@ -5,9 +5,9 @@ ghost use lib.ListN.{length};
 ghost use Rattle.lines.specs.Report.{room};
 ghost use Rattle.lines.specs.Start.{Started};
 ghost use Rattle.sheet.specs.Sheet.{maxRecords, maxBytes};
+use sheet::Sheeted;
 use text::line::put_board;
 use text::line::put_refused;
-use sheet::Sheeted;
 
 // How many bytes the first line has; and of a board the height, the bitmap's length, and the offset of the first record after the joints.
 pub enum Begun {
