@@ -2,7 +2,6 @@
 use Prim.Native.Nat.{ℕ, _≤_}
 use mathlib.Core.Path.{_≡_, sym, ap, _∙_}
 use mathlib.Core.List.{List, [], _∷_}
-use native.Mathlib.Omega.{arith}
 use lib.ListN.{length, getD}
 use borrow.Author.Tests.{eq-eqb}
 use Rattle.refusal.specs.Answer.{Served, leftIn}
@@ -16,8 +15,8 @@ use Rattle.sheet.specs.Sheet.{maxRecords, maxBytes}
 use Rattle.sheet.specs.Promise.{bitmapIn}
 use Rattle.sheet.proofs.Served.{served-board}
 use Rattle.lines.specs.Report.{maxTrail}
-use Rattle.lines.specs.Requests.{Desk, deskOf}
-use Rattle.lines.specs.Whole.{BoardIn, OnDesk, reportDesk}
+use Rattle.lines.specs.Requests.{Desk}
+use Rattle.lines.specs.Whole.{BoardIn, OnDesk}
 
 -- what is known of the board: its height is served, its bytes have room, and the check serves it
 record Known (height : ℕ) (bytes : List ℕ) : Type 0 where

@@ -1,10 +1,9 @@
 -- Each promise determines its call.
 use Prim.Native.Nat.{ℕ}
 use mathlib.Core.Path.{_≡_, sym, _∙_}
-use mathlib.Core.List.{List, [], _∷_}
+use mathlib.Core.List.{List}
 use native.Mathlib.Omega.{arith}
 use Rattle.promise.specs.Determines.{Determines}
-use Rattle.lines.specs.declared.request.Chunk.{Chunk}
 use Rattle.lines.specs.declared.start.Begun.{Begun}
 use Rattle.lines.specs.declared.start.Begun.the-variants.{Board, Refused}
 use Rattle.text.proofs.Determined.{put-one-way}

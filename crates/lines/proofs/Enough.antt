@@ -1,12 +1,12 @@
 -- The program's room is enough: in a report no question is refused by 9 or 10, and no window by 9.
-use Prim.Native.Nat.{ℕ, _≤_, max}
+use Prim.Native.Nat.{ℕ, _≤_}
 use mathlib.Core.Bool.{Bool, true, false, _&&_}
 use mathlib.Core.Path.{_≡_, refl}
 use mathlib.Core.List.{List, [], _∷_}
 use native.Mathlib.Omega.{arith}
 use lib.ListN.{length}
 use lib.Dec.{leb}
-use borrow.Author.Tests.{le-leb, leb-true}
+use borrow.Author.Tests.{le-leb}
 use Rattle.refusal.specs.Answer.{Answer, Served, Refused, _unless_, _then_}
 use Rattle.bitmap.specs.Directory.{directoryOf, alike}
 use Rattle.board.specs.Limits.{maxJoints}

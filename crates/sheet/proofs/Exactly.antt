@@ -4,24 +4,22 @@ use Prim.Native.Nat.{ℕ, _≤_, _<_}
 use mathlib.Core.Bool.{Bool, true, false}
 use mathlib.Core.Logic.{_↔_, _⊎_, inl, inr, ⊎-elim}
 use mathlib.Core.Path.{_≡_, refl, sym, _∙_}
-use mathlib.Core.List.{List, map}
+use mathlib.Core.List.{List}
 use native.Mathlib.Omega.{arith}
 use lib.ListN.{length, getD}
 use lib.Dec.{leb, eqb}
 use borrow.Author.Tests.{leb-true, leb-false, le-leb, lt-leb, eqb-false, ne-eqb}
-use Rattle.refusal.specs.Answer.{Answer, Served, Refused, _unless_, _then_}
+use Rattle.refusal.specs.Answer.{Served, Refused, _unless_, _then_}
 use Rattle.order.proofs.Cases.{leb-cases}
 use Rattle.board.specs.Limits.{maxJoints}
-use Rattle.board.specs.Levels.{groups}
-use Rattle.board.specs.Code.{codeOf}
-use Rattle.build.specs.Build.{onceEach, setOf, bitmapOfCodes, bitmapOf}
+use Rattle.build.specs.Build.{setOf, bitmapOf}
 use Rattle.build.specs.Answers.{codesBuiltOf}
 use Rattle.records.specs.declared.kind.Stage.{Stage}
 use Rattle.records.specs.declared.record.Record.{Record}
 use Rattle.records.specs.Records.{recordAt}
-use Rattle.sheet.specs.Sheet.{Verdict, Accepted, RefusedAt, offset, _onward_, maxSheet, sheetOf, heightIn, cellsIn, afterJoints}
+use Rattle.sheet.specs.Sheet.{Verdict, Accepted, RefusedAt, offset, _onward_, maxSheet, sheetOf, heightIn, cellsIn}
 use Rattle.sheet.specs.Promise.{boardOf, readOf}
-use Rattle.sheet.specs.Table.{LookedAt, Fault, wrong, no-end, bytes-after, At, UnknownKind, OutOfPlace, CutShort, WholeBody, NotMeasures, JointOff, HeightOff, NoEnd, BytesAfter}
+use Rattle.sheet.specs.Table.{Fault, wrong, no-end, bytes-after, At, UnknownKind, OutOfPlace, CutShort, WholeBody, NotMeasures, JointOff, HeightOff, NoEnd, BytesAfter}
 use Rattle.sheet.proofs.Shape.{not-accepted, fails}
 use Rattle.sheet.proofs.Faults.{sheet-faults}
 use Rattle.sheet.proofs.Refusals.{ofRecord, ofSheet, by-record, by-sheet, sheet-long, read-refused-at}

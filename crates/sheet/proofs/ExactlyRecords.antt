@@ -1,17 +1,16 @@
 -- A record is refused by each of its numbers exactly when the table says: 14, 15, 16, and of its body 1, 13 or 12.
-use Prim.Native.Nat.{ℕ, _+_, _≤_, _<_}
+use Prim.Native.Nat.{ℕ, _+_, _≤_}
 use mathlib.Core.Bool.{Bool, true, false, _&&_}
-use mathlib.Core.Logic.{_↔_, _⊎_, inl, inr, ⊎-elim}
-use mathlib.Core.Path.{_≡_, refl, sym, ap, _∙_}
+use mathlib.Core.Logic.{_↔_, inl, inr}
+use mathlib.Core.Path.{_≡_, refl, sym, _∙_}
 use mathlib.Core.List.{List}
 use native.Mathlib.Omega.{arith}
 use lib.ListN.{length, getD, drop}
 use lib.Dec.{leb, eqb}
-use borrow.Author.Tests.{leb-true, leb-false, le-leb, lt-leb, eqb-false, ne-eqb, ltb-true, lt-ltb}
+use borrow.Author.Tests.{leb-true, leb-false, le-leb, eqb-false, ne-eqb, ltb-true, lt-ltb}
 use Rattle.refusal.specs.Answer.{Answer, Served, Refused, _unless_, _then_, _into_}
 use Rattle.refusal.proofs.Answers.{not-both}
-use Rattle.order.proofs.Cases.{test-cases, leb-cases}
-use Rattle.measure.specs.Measure.{readOf, readMarkedOf}
+use Rattle.order.proofs.Cases.{test-cases}
 use Rattle.measure.proofs.Exact.{read-refuses, read-marked-refuses}
 use Rattle.board.specs.Limits.{maxHeight}
 use Rattle.board.specs.Member.{onBoard}

@@ -19,8 +19,8 @@ use Rattle.records.specs.declared.kind.Kind.{Kind}
 use Rattle.records.specs.declared.kind.Kind.the-variants.{Board, Joint, Question, Window, End}
 use Rattle.records.specs.declared.kind.Stage.{Stage}
 use Rattle.records.specs.declared.record.Record.{Record}
-use Rattle.records.specs.Kinds.{kindOf, knownOf, bodyLength, inPlace, stageAfter}
-use Rattle.records.specs.Records.{measureAt, markedAt, bodyOf, recordAt, kindIn, nextAfter}
+use Rattle.records.specs.Kinds.{kindOf, knownOf, bodyLength, inPlace}
+use Rattle.records.specs.Records.{measureAt, markedAt, bodyOf, recordAt}
 use Rattle.sheet.specs.Sheet.{Verdict, Accepted, RefusedAt, sheetOf, maxSheet, maxRecords, maxBytes, heightIn, cellsIn}
 use Rattle.sheet.specs.Promise.{readOf as readSheet}
 use Rattle.sheet.specs.Table.{Fault, wrong, no-end, bytes-after}

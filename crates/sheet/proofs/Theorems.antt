@@ -1,11 +1,10 @@
 -- What reading a sheet is worth: a valid board, and the room that is always enough.
 use Prim.Native.Nat.{ℕ, _≤_, _<_}
-use mathlib.Core.Path.{_≡_, sym, _∙_}
+use mathlib.Core.Path.{_≡_}
 use mathlib.Core.List.{List, [], _∷_, map}
 use native.Mathlib.Omega.{arith}
 use lib.ListN.{length}
 use borrow.Author.Tests.{le-leb, lt-leb}
-use Rattle.refusal.proofs.Numbers.{one-to-twenty}
 use Rattle.board.specs.Limits.{maxJoints}
 use Rattle.board.specs.Levels.{joints, groups}
 use Rattle.board.specs.Code.{codeOf}
@@ -14,12 +13,10 @@ use Rattle.board.proofs.Codes.{decode}
 use Rattle.build.specs.Build.{onceEach, setOf, bitmapOfCodes, bitmapOf}
 use Rattle.build.specs.Answers.{codesBuiltOf}
 use Rattle.build.proofs.Theorems.{built-valid, built-joints, built-fits}
-use Rattle.sheet.specs.declared.Sheeted.{Sheeted}
-use Rattle.sheet.specs.declared.Sheeted.the-variants.{Board, Refused as Turned}
 use Rattle.records.specs.declared.record.Record.{Record}
 use Rattle.sheet.specs.Sheet.{Accepted, RefusedAt, maxSheet, maxRecords, maxBytes, sheetOf, heightIn, cellsIn, afterJoints}
-use Rattle.sheet.specs.Promise.{sheetedOf, boardOf, readOf, bitmapIn, Promise}
-use Rattle.sheet.proofs.Shape.{sheet-shape, not-accepted}
+use Rattle.sheet.specs.Promise.{boardOf, readOf, bitmapIn}
+use Rattle.sheet.proofs.Shape.{sheet-shape}
 
 module _ (sheet : List ℕ) (rs : List Record) (e : sheetOf sheet ≡ Accepted rs) where
   -- an accepted sheet has at most 5,957 joint records

@@ -1,4 +1,4 @@
--- The codes of a sheet's joints, by where the joint records stand.
+-- For the functions inside: the codes of a sheet's joints, by where the joint records stand.
 use Prim.Native.Nat.{ℕ, zero, suc}
 use mathlib.Core.List.{List, [], _∷_, _++_}
 use Rattle.refusal.specs.Answer.{Answer, Served, Refused}

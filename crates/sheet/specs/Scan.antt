@@ -1,4 +1,4 @@
--- What the scan of a sheet answers: the height and the number of joint records; and how it goes from place to place.
+-- For the functions inside: what the scan of a sheet answers, the height and the number of joint records; and how it goes from place to place.
 use Prim.Native.Nat.{ℕ, suc, _+_, _≤_, _<_}
 use mathlib.Core.Bool.{Bool, true, false}
 use mathlib.Core.Path.{_≡_}

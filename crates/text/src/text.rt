@@ -1,6 +1,6 @@
 // The bytes of a line: a word, then numbers in decimal, each after a space, then a line feed.
 ghost use mathlib.Core.List.{flatMap};
-ghost use Rattle.text.specs.Text.{inDecimal, field, Line, bytesOf, Fits, Put};
+ghost use Rattle.text.specs.Text.{inDecimal, field, bytesOf, Fits, Put};
 
 // Puts a number in decimal from a place on; the place behind it. The digits before the last one are those of a tenth.
 fn put_decimal(n: u32, out: &mut [u8], at: usize) -> usize
