@@ -33,7 +33,7 @@ pub record Rooms : Type 0 where
 abbrev pub workFor : ℕ → List ℕ → ℕ
 workFor h bytes = max 1 (length (joints h bytes))
 
--- the tests of the question itself, of a board of so many joints at most: 7, 8, 9, 10
+-- the tests of the question itself, each of whose work lists must have so many places: 7, 8, 9, 10
 abbrev pub roomOf : Place → ℕ → ℕ → Rooms → Answer Bool
 roomOf p k work r =
     7 unless inRange p
