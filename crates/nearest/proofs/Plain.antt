@@ -1,19 +1,21 @@
--- A served question without keys: the first K joints stand in the answer list and the boxes opened for them in the trail list, each with zeros after them.
+-- What a question leaves, without keys. Served: the first K joints stand in the answer list and the boxes opened for them in the trail list, each with zeros
+-- after them. Refused: zeros.
 use Prim.Native.Nat.{ℕ, _-_}
 use mathlib.Core.Path.{_≡_, sym, ap, _∙_}
 use mathlib.Core.List.{List, [], _∷_, map, map-map}
+use native.Mathlib.Omega.{arith}
 use lib.ListN.{length, take, drop, replicate, length-map}
 use lib.Seq.{take-at, drop-at}
 use lib.IntN.{ℤ}
+use Rattle.refusal.specs.declared.Refusal.{Refusal}
 use Rattle.refusal.specs.Answer.{Served, leftIn}
 use Rattle.search.specs.Near as near
 use Rattle.search.specs.Question as question
 use Rattle.search.specs.Plain.{FirstJoints, Trail}
 use Rattle.search.proofs.PlainJoints.{answerIn}
 use Rattle.search.proofs.Plain.{answer-plain, trail-plain}
-use Rattle.nearest.specs.declared.distance.Place.{Place}
 use Rattle.nearest.specs.declared.answer.Answer.{Answer}
-use Rattle.nearest.specs.declared.ask.Nearest.the-variants.{Found}
+use Rattle.nearest.specs.declared.ask.Nearest.the-variants.{Found, Refused as Turned}
 use Rattle.nearest.specs.Places.{placeAt, placeOf}
 use Rattle.nearest.specs.Answers.{zeroAnswer, answerOf, filled}
 use Rattle.nearest.specs.Kept.{Lent, rooms, Kept}
@@ -48,3 +50,12 @@ kept-plain {h} {bytes} {d} {row} {column} {k} {was} {is} {j} {g} kept =
           answers-after = ap (drop j) a ∙ drop-at (map answerOf keys) _ j long ∙ ap (λ (i : ℕ). replicate (length (was .answers) - i) zeroAnswer) m;
           trail-after = ap (drop g) t ∙ drop-at boxes _ g n ∙ ap (λ (i : ℕ). replicate (length (was .trail) - i) 0) n;
         }
+
+-- after a refusal the answer list and the trail list are all zero; the work lists always are
+pub refused-zeros : {h : ℕ} {bytes d : List ℕ} {row column : ℤ} {k : ℕ} {was is : Lent} {f : Refusal} → Kept h bytes d row column k was (Turned f) is
+    → (is .answers ≡ replicate (length (was .answers)) zeroAnswer) × (is .trail ≡ replicate (length (was .trail)) 0)
+unfolding filled leftIn
+refused-zeros {was = was} kept =
+    let e = sym (kept .number) in
+    let all : length (was .answers) - 0 ≡ length (was .answers) = omega arith in
+    (rw all at (rw e at (kept .answers)), rw e at (kept .trail))
