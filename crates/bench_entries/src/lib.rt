@@ -7,12 +7,13 @@ ghost use lib.ListN.{length, replicate};
 ghost use Rattle.refusal.specs.Answer.{leftIn, numberIn, valueIn};
 ghost use Rattle.order.specs.Order.{sort as inOrder};
 ghost use Rattle.bitmap.specs.Directory.{directoryOf};
-ghost use Rattle.board.specs.Limits.{maxHeight, maxJoints};
 ghost use Rattle.board.specs.Ready.{madeOf};
 ghost use Rattle.build.specs.Build.{bitmapOf};
 ghost use Rattle.build.specs.Answers.{builtOf, cellsOf};
-ghost use Rattle.lines.specs.Report.{room, maxTrail};
-ghost use Rattle.lines.specs.Requests.{deskOf, Chunked};
+ghost use Rattle.sheet.specs.Sheet.{maxRecords, maxBytes};
+ghost use Rattle.lines.specs.Report.{room};
+ghost use Rattle.lines.specs.Requests.{Chunked};
+ghost use Rattle.lines.specs.Whole.{OnDesk, reportDesk};
 ghost use Rattle.bench_entries.specs.Entries.{Begun as FirstPut};
 use board::check::Checked;
 use build::Built;
@@ -82,7 +83,7 @@ pub extern "C" fn bench_first_line(
     size: &mut u32,
     requests: &mut usize,
 ) -> usize
-    requires { ⌜ room ≤ length (now out) ⌝ }
+    requires { ⌜ (length (now work) ≡ maxRecords) × (length (now bitmap) ≡ maxBytes) × (room ≤ length (now out)) ⌝ }
     ensures { λ r. ⌜ FirstPut (now (sheet .entry)) (now (work .entry)) (now (bitmap .entry)) (now (out .entry)) r (now (height .exit) ∷ now (size .exit) ∷ now (requests .exit) ∷ []) (now (work .exit)) (now (bitmap .exit)) (now (out .exit)) ⌝ }
 {
     match lines::start::first_line(sheet, work, bitmap, out) {
@@ -122,8 +123,8 @@ pub extern "C" fn bench_next_lines(
     out: &mut [u8],
     next: &mut usize,
 ) -> usize
-    requires { ⌜ (at < length (now sheet)) × (height ≤ maxHeight) × (length (now rows) ≤ maxJoints) × (length (now trail) ≤ maxTrail) × (room ≤ length (now out)) ⌝ }
-    ensures { λ r. ⌜ (Chunked (deskOf (now (directory .entry)) (now (rows .entry)) (now (columns .entry)) (now (keys .entry)) (now (corners .entry)) (now (trail .entry))) height (now (bytes .entry)) (now (sheet .entry)) at (now (out .entry)) (record { length = r; next = now (next .exit) }) (now (out .exit))) × (now (rows .exit) ≡ replicate (length (now (rows .entry))) 0) × (now (columns .exit) ≡ replicate (length (now (columns .entry))) 0) × (now (keys .exit) ≡ replicate (length (now (keys .entry))) 0) × (now (corners .exit) ≡ replicate (length (now (corners .entry))) 0) × (now (trail .exit) ≡ replicate (length (now (trail .entry))) 0) ⌝ }
+    requires { ⌜ OnDesk (now sheet) height (now bytes) (now directory) (now rows) (now columns) (now keys) (now corners) (now trail) × (at < length (now sheet)) × (room ≤ length (now out)) ⌝ }
+    ensures { λ r. ⌜ (Chunked (reportDesk (now (bytes .entry))) height (now (bytes .entry)) (now (sheet .entry)) at (now (out .entry)) (record { length = r; next = now (next .exit) }) (now (out .exit))) × (now (rows .exit) ≡ replicate (length (now (rows .entry))) 0) × (now (columns .exit) ≡ replicate (length (now (columns .entry))) 0) × (now (keys .exit) ≡ replicate (length (now (keys .entry))) 0) × (now (corners .exit) ≡ replicate (length (now (corners .entry))) 0) × (now (trail .exit) ≡ replicate (length (now (trail .entry))) 0) ⌝ }
 {
     let chunk = lines::request::next_lines(
         height,
