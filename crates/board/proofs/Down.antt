@@ -8,6 +8,7 @@ use native.Mathlib.Nat.{div-eq-of-lt, div-lt-iff-lt-mul, one-le-pow}
 use lib.ListN.{length}
 use lib.Dec.{ltb}
 use borrow.Author.Tests.{ltb-true, eq-eqb, ne-eqb}
+use Rattle.refusal.proofs.Tests.{both}
 use Rattle.order.specs.Order.{has}
 use Rattle.order.proofs.Cases.{ltb-cases}
 use Rattle.bitmap.specs.Bits.{bitAt, groupAt, rank}
@@ -21,7 +22,6 @@ use Rattle.board.proofs.Levels.{groups-mono}
 use Rattle.board.proofs.Rank.{stands-root, rank-is-place}
 use Rattle.board.proofs.Codes.{codes}
 use Rattle.board.proofs.Bounds.{groups-at-most, group-in-bytes}
-use Rattle.board.proofs.Valid.{both}
 use Rattle.board.proofs.WayDown.{holder, digit, digit-small, holder-down, holder-root, zero-not-stored, end-stored, stored-code}
 
 -- on the board, or not, by the quotient

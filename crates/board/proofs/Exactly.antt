@@ -9,6 +9,7 @@ use native.Mathlib.Nat.{zero-div, zero-mod}
 use lib.ListN.{length, List·getD-eq-default}
 use lib.Dec.{leb, eqb}
 use borrow.Author.Tests.{leb-true, eqb-true, leb-false, eqb-false, le-leb, lt-leb, eq-eqb, ne-eqb}
+use Rattle.refusal.proofs.Tests.{both}
 use Rattle.refusal.specs.Answer.{Answer, Served, Refused, _unless_, _then_}
 use Rattle.refusal.proofs.Answers.{not-both}
 use Rattle.order.proofs.Cases.{test-cases, leb-cases, same?}
@@ -19,10 +20,10 @@ use Rattle.board.specs.Levels.{joints, groups}
 use Rattle.board.specs.Check.{missing, empty, faulty, faultAt, enough, checkOf}
 use Rattle.board.specs.Valid.{Valid}
 use Rattle.board.specs.Table.{HeightServed, EndBefore, AllZero, SoundBefore, FirstAt, BytesOver, UnusedOne}
-use Rattle.board.proofs.Valid.{both, sound-group, group-sound, check-fault, check-sized, just-valid, valid-sized}
+use Rattle.board.proofs.Valid.{sound-group, group-sound, check-fault, check-sized, just-valid, valid-sized}
 use Rattle.board.proofs.Levels.{groups-pos}
 use Rattle.board.proofs.Tests.{height-test}
-use Rattle.board.proofs.Refused.{past-test, by-test}
+use Rattle.refusal.proofs.Refused.{past-test, by-test}
 
 -- ---- the tests in the table's words
 

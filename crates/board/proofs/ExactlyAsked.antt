@@ -18,7 +18,7 @@ use Rattle.board.specs.Ready.{madeOf}
 use Rattle.board.specs.Member.{onBoard, stored, memberOf}
 use Rattle.board.specs.Table.{WrongLength, WrongEntry, CellOn, Serves}
 use Rattle.board.proofs.Tests.{no-path, not-passed, cell-test}
-use Rattle.board.proofs.Refused.{past-test, by-test, past-first, by-first}
+use Rattle.refusal.proofs.Refused.{past-test, by-test, past-first, by-first}
 use Rattle.board.proofs.Exactly.{check-numbers}
 
 -- ---- the tests in the table's words

@@ -9,6 +9,7 @@ use native.Mathlib.Omega.{arith}
 use lib.ListN.{length, getD}
 use lib.Dec.{eqb}
 use borrow.Author.Tests.{eqb-true, eq-eqb, lt-ltb}
+use Rattle.refusal.proofs.Tests.{both}
 use Rattle.refusal.specs.Answer.{Served}
 use Rattle.order.proofs.Cases.{test-cases}
 use Rattle.bitmap.specs.Directory.{directoryOf}
@@ -18,7 +19,7 @@ use Rattle.board.specs.Check.{checkOf}
 use Rattle.board.specs.Ready.{Ready}
 use Rattle.board.specs.Member.{among, stored, onBoard, memberOf}
 use Rattle.board.proofs.Codes.{box-path}
-use Rattle.board.proofs.Valid.{Sound, both, served-valid, valid-served}
+use Rattle.board.proofs.Valid.{Sound, served-valid, valid-served}
 
 -- ---- the check
 

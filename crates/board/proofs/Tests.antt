@@ -6,10 +6,10 @@ use mathlib.Core.Path.{_≡_, refl, sym}
 use native.Mathlib.Omega.{arith}
 use lib.Dec.{leb, ltb}
 use borrow.Author.Tests.{leb-true, ltb-true, le-leb, lt-ltb}
+use Rattle.refusal.proofs.Tests.{both}
 use Rattle.board.specs.Limits.{maxHeight}
 use Rattle.board.specs.Member.{onBoard}
 use Rattle.board.specs.Table.{HeightServed, CellOn}
-use Rattle.board.proofs.Valid.{both}
 
 -- no test is both passed and not
 pub no-path : true ≡ false → ⊥

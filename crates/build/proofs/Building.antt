@@ -8,6 +8,7 @@ use lib.ListN.{length, take, drop, replicate, length-map}
 use lib.Seq.{take-at}
 use lib.Dec.{leb, eqb}
 use borrow.Author.Tests.{le-leb, lt-leb, leb-true, eqb-true}
+use Rattle.refusal.proofs.Tests.{both}
 use Rattle.refusal.specs.declared.Refusal.{Refusal}
 use Rattle.refusal.specs.Numbers.{numberOf}
 use Rattle.refusal.specs.Answer.{Answer, Served, Refused, _unless_, leftIn}
@@ -18,7 +19,6 @@ use Rattle.board.specs.Limits.{maxHeight, maxJoints}
 use Rattle.board.specs.Levels.{Box, groups}
 use Rattle.board.specs.Code.{codeOf}
 use Rattle.board.proofs.Codes.{in-below, decode, code-decode, code-below}
-use Rattle.board.proofs.Valid.{both}
 use Rattle.build.specs.declared.Built.{Built}
 use Rattle.build.specs.declared.Built.the-variants.{Board, Refused as Turned}
 use Rattle.build.specs.Build.{groupsFrom, onceEach, setOf, bitmapOfCodes, bitmapOf}

@@ -8,6 +8,7 @@ use native.Mathlib.Omega.{arith}
 use lib.ListN.{length}
 use lib.Dec.{leb, eqb}
 use borrow.Author.Tests.{leb-true, leb-false, le-leb, lt-leb, eqb-true, eqb-false, eq-eqb, ne-eqb}
+use Rattle.refusal.proofs.Tests.{both}
 use Rattle.refusal.specs.Answer.{Answer, Served, Refused, _unless_, _then_}
 use Rattle.refusal.proofs.Answers.{not-both, passed}
 use Rattle.order.proofs.Cases.{test-cases}
@@ -16,8 +17,7 @@ use Rattle.board.specs.Levels.{groups}
 use Rattle.board.specs.Member.{onBoard}
 use Rattle.board.specs.Table.{HeightServed}
 use Rattle.board.proofs.Tests.{not-passed, height-test, cell-test}
-use Rattle.board.proofs.Valid.{both}
-use Rattle.board.proofs.Refused.{past-test, by-test}
+use Rattle.refusal.proofs.Refused.{past-test, by-test}
 use Rattle.build.specs.Build.{setOf, bitmapOf}
 use Rattle.build.specs.Answers.{cellsOf, allOn, givenOf, codesBuiltOf, builtOf}
 use Rattle.build.specs.Table.{AsLong, OnAt, AllOn, GivenWell}

@@ -7,20 +7,12 @@ use lib.Dec.{eqb}
 use borrow.Author.Tests.{eq-eqb, ne-eqb}
 use Rattle.order.specs.Order.{unless-first, distinct, has}
 use Rattle.order.specs.Bag.{same}
-use Rattle.order.proofs.Cases.{test-cases, same-cases, same-self}
+use Rattle.order.proofs.Cases.{same-cases, same-self}
 use Rattle.order.proofs.Sets.{has-here, has-there, has-append-left, has-append-right}
+use Rattle.order.proofs.Distinct.{unless-snoc}
 use Rattle.build.specs.Build.{boxesOf, groupOf}
 use Rattle.build.specs.Writing.{worth}
 use Rattle.build.proofs.Groups.{groupOf-same}
-
--- one more behind a list that is not empty
-unless-snoc : (a b : ℕ) (l : List ℕ) (x : ℕ) → unless-first a (unless-first b l ++ x ∷ []) ≡ unless-first a (unless-first b l) ++ x ∷ []
-unfolding unless-first
-unless-snoc a b [] x = test-cases (eqb a b) (λ e. rw e) (λ e. rw e)
-unless-snoc a b (y ∷ ys) x =
-    test-cases (eqb b y)
-    (λ e. rw e (test-cases (eqb a y) (λ f. rw f) (λ f. rw f)))
-    (λ e. rw e (test-cases (eqb a b) (λ f. rw f) (λ f. rw f)))
 
 -- a number that is the one before it is not kept
 distinct-same : (l : List ℕ) (b c : ℕ) → b ≡ c → distinct (l ++ b ∷ [] ++ c ∷ []) ≡ distinct (l ++ b ∷ [])

@@ -6,6 +6,7 @@ use mathlib.Core.List.{List, [], _∷_, map}
 use native.Mathlib.Omega.{arith}
 use lib.ListN.{length, getD}
 use lib.Dec.{eqb}
+use Rattle.refusal.proofs.Tests.{both}
 use Rattle.refusal.specs.Answer.{Served}
 use Rattle.order.specs.Order.{has}
 use Rattle.order.proofs.Total.{All, all-nil, all-cons}
@@ -20,7 +21,7 @@ use Rattle.board.proofs.Codes.{decode, codes}
 use Rattle.board.proofs.WayDown.{among-code, stored-code, same-joints}
 use Rattle.board.proofs.Under.{Small}
 use Rattle.board.proofs.Tests.{cell-test}
-use Rattle.board.proofs.Valid.{both, valid-served}
+use Rattle.board.proofs.Valid.{valid-served}
 use Rattle.board.proofs.Bounds.{groups-at-most}
 use Rattle.build.specs.Answers.{allOn}
 use Rattle.build.specs.Build.{setOf, bitmapOfCodes, bitmapOf}

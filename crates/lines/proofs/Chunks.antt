@@ -5,6 +5,7 @@ use mathlib.Core.List.{List, [], _∷_, _++_, flatMap, append-nil}
 use native.Mathlib.Omega.{arith}
 use lib.ListN.{length, getD}
 use borrow.Author.Tests.{lt-ltb, le-ltb}
+use Rattle.refusal.proofs.Tests.{fails}
 use Rattle.refusal.specs.Answer.{Answer, Served, Refused}
 use Rattle.order.proofs.Total.{flatMap-append}
 use Rattle.records.specs.declared.kind.Stage.the-variants.{Requests}
@@ -14,7 +15,7 @@ use Rattle.records.specs.Records.{recordAt, kindIn, nextAfter}
 use Rattle.sheet.specs.Sheet.{Accepted, RefusedAt, maxRecords, maxBytes, heightAfter}
 use Rattle.sheet.specs.Promise.{readOf, bitmapIn}
 use Rattle.sheet.proofs.Scanning.{read-as}
-use Rattle.sheet.proofs.Shape.{Stand, last, more, fails}
+use Rattle.sheet.proofs.Shape.{Stand, last, more}
 use Rattle.sheet.proofs.Served.{served-board}
 use Rattle.text.specs.Text.{bytesOf, textOf}
 use Rattle.lines.specs.Requests.{Desk, requestLines, readLines, nextIn}

@@ -7,13 +7,14 @@ use native.Mathlib.Omega.{arith}
 use lib.ListN.{length}
 use lib.Dec.{leb}
 use borrow.Author.Tests.{le-leb}
+use Rattle.refusal.proofs.Tests.{both}
 use Rattle.refusal.specs.Answer.{Answer, Served, Refused, _unless_, _then_}
 use Rattle.bitmap.specs.Directory.{directoryOf, alike}
 use Rattle.board.specs.Limits.{maxJoints}
 use Rattle.board.specs.Levels.{joints}
 use Rattle.board.specs.Check.{checkOf}
 use Rattle.window.specs.Window.{Window, inside, found, endsFit, roomed, windowOf}
-use Rattle.board.proofs.Valid.{both, served-valid}
+use Rattle.board.proofs.Valid.{served-valid}
 use Rattle.window.proofs.Listing.{keep-le}
 use Rattle.search.specs.Question.{answerKeys, trail}
 use Rattle.nearest.specs.declared.distance.Place.{Place}

@@ -8,6 +8,7 @@ use lib.Dec.{leb}
 use lib.ListN.{length, take, replicate, length-map}
 use lib.Seq.{take-at}
 use borrow.Author.Tests.{leb-true}
+use Rattle.refusal.proofs.Tests.{both}
 use Rattle.refusal.specs.Answer.{Answer, Served, Refused, _unless_, _then_, leftIn}
 use Rattle.refusal.proofs.Answers.{passed, went-on}
 use Rattle.bitmap.specs.Directory.{directoryOf, alike}
@@ -15,7 +16,6 @@ use Rattle.board.specs.Levels.{Box}
 use Rattle.board.specs.Check.{checkOf}
 use Rattle.window.specs.declared.Windowed.{Windowed}
 use Rattle.window.specs.Window.{Window, endsFit, found, roomed, windowOf, rowOf, columnOf, Shown}
-use Rattle.board.proofs.Valid.{both}
 use Rattle.text.specs.Text.{bytesOf, textOf, Put}
 use Rattle.text.specs.Lines.{winLine, inLines, noLine}
 use Rattle.lines.specs.Report.{windowLines, WindowPut}

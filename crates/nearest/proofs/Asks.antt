@@ -7,6 +7,7 @@ use lib.ListN.{length}
 use lib.Dec.{leb}
 use lib.IntN.{natAbs}
 use borrow.Author.Tests.{leb-true, le-leb, lt-leb}
+use Rattle.refusal.proofs.Tests.{both}
 use Rattle.refusal.specs.Answer.{Answer, Served, Refused, _unless_, _then_}
 use Rattle.refusal.proofs.Answers.{not-both, passed, went-on}
 use Rattle.bitmap.specs.Directory.{directoryOf, alike}
@@ -15,7 +16,7 @@ use Rattle.board.specs.Limits.{maxHeight, maxJoints, maxPlace}
 use Rattle.board.specs.Levels.{joints, groups}
 use Rattle.board.specs.Check.{checkOf, firstFault, faults, enough}
 use Rattle.board.specs.Ready.{Ready}
-use Rattle.board.proofs.Valid.{Sound, both, served-valid}
+use Rattle.board.proofs.Valid.{Sound, served-valid}
 use Rattle.search.specs.Question.{answerKeys, trail}
 use Rattle.nearest.specs.declared.distance.Place.{Place}
 use Rattle.nearest.specs.Places.{placeOf, inRange, Named}

@@ -9,6 +9,7 @@ use lib.ListN.{length}
 use lib.Dec.{leb}
 use lib.IntN.{natAbs}
 use borrow.Author.Tests.{leb-true, leb-false, le-leb, lt-leb, ne-eqb}
+use Rattle.refusal.proofs.Tests.{both}
 use Rattle.refusal.specs.Answer.{Answer, Served, Refused, _unless_, _then_}
 use Rattle.refusal.proofs.Answers.{not-both, unless-exactly}
 use Rattle.order.proofs.Cases.{test-cases, leb-cases}
@@ -16,9 +17,8 @@ use Rattle.bitmap.specs.Directory.{directoryOf, alike}
 use Rattle.board.specs.Limits.{maxPlace}
 use Rattle.board.specs.Check.{checkOf}
 use Rattle.board.specs.Table.{WrongLength, WrongEntry, Serves}
-use Rattle.board.proofs.Valid.{both}
 use Rattle.board.proofs.Tests.{no-path, not-passed}
-use Rattle.board.proofs.Refused.{past-test, by-test}
+use Rattle.refusal.proofs.Refused.{past-test, by-test}
 use Rattle.board.proofs.Exactly.{check-numbers}
 use Rattle.board.proofs.ExactlyAsked.{those, six, after-six}
 use Rattle.search.specs.Question.{answerKeys, trail}

@@ -13,7 +13,7 @@ use Rattle.order.specs.Once.{Left, Dropped, Tidied}
 use Rattle.order.proofs.Cases.{test-cases}
 
 -- one more behind a list that is not empty
-unless-snoc : (a b : ℕ) (l : List ℕ) (x : ℕ) → unless-first a (unless-first b l ++ x ∷ []) ≡ unless-first a (unless-first b l) ++ x ∷ []
+pub unless-snoc : (a b : ℕ) (l : List ℕ) (x : ℕ) → unless-first a (unless-first b l ++ x ∷ []) ≡ unless-first a (unless-first b l) ++ x ∷ []
 unfolding unless-first
 unless-snoc a b [] x = test-cases (eqb a b) (λ e. rw e) (λ e. rw e)
 unless-snoc a b (y ∷ ys) x =

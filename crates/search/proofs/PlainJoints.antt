@@ -10,6 +10,7 @@ use lib.ListN.{length, take, length-map, length-take}
 use lib.Dec.{eqb}
 use lib.Pow.{pow-mono}
 use borrow.Author.Tests.{eqb-true, eq-eqb}
+use Rattle.refusal.proofs.Tests.{both}
 use Rattle.order.specs.Order.{sort}
 use Rattle.order.proofs.Cases.{test-cases}
 use Rattle.order.proofs.Total.{All, all-nil, all-cons, total-one, total-sort}
@@ -22,7 +23,6 @@ use Rattle.board.specs.Member.{among, stored}
 use Rattle.board.proofs.Codes.{box-path, codes}
 use Rattle.board.proofs.Children.{rising-codes}
 use Rattle.board.proofs.Under.{Small, joints-on-board}
-use Rattle.board.proofs.Valid.{both}
 use Rattle.search.specs.Near.{Place, near}
 use Rattle.search.specs.Keys.{cellId, jointKey, distanceOf, rowOf, colOf}
 use Rattle.search.specs.Question.{jointKeys, answerKeys}

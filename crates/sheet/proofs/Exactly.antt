@@ -9,6 +9,7 @@ use native.Mathlib.Omega.{arith}
 use lib.ListN.{length, getD}
 use lib.Dec.{leb, eqb}
 use borrow.Author.Tests.{leb-true, leb-false, le-leb, lt-leb, eqb-false, ne-eqb}
+use Rattle.refusal.proofs.Tests.{fails}
 use Rattle.refusal.specs.Answer.{Served, Refused, _unless_, _then_}
 use Rattle.order.proofs.Cases.{leb-cases}
 use Rattle.board.specs.Limits.{maxJoints}
@@ -20,7 +21,7 @@ use Rattle.records.specs.Records.{recordAt}
 use Rattle.sheet.specs.Sheet.{Verdict, Accepted, RefusedAt, offset, _onward_, maxSheet, sheetOf, heightIn, cellsIn}
 use Rattle.sheet.specs.Promise.{boardOf, readOf}
 use Rattle.sheet.specs.Table.{Fault, wrong, no-end, bytes-after, At, UnknownKind, OutOfPlace, CutShort, WholeBody, NotMeasures, JointOff, HeightOff, NoEnd, BytesAfter}
-use Rattle.sheet.proofs.Shape.{not-accepted, fails}
+use Rattle.sheet.proofs.Shape.{not-accepted}
 use Rattle.sheet.proofs.Faults.{sheet-faults}
 use Rattle.sheet.proofs.Refusals.{ofRecord, ofSheet, by-record, by-sheet, sheet-long, read-refused-at}
 use Rattle.sheet.proofs.Theorems.{too-many}

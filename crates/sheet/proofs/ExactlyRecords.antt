@@ -8,6 +8,7 @@ use native.Mathlib.Omega.{arith}
 use lib.ListN.{length, getD, drop}
 use lib.Dec.{leb, eqb}
 use borrow.Author.Tests.{leb-true, leb-false, le-leb, eqb-false, ne-eqb, ltb-true, lt-ltb}
+use Rattle.refusal.proofs.Tests.{both, fails}
 use Rattle.refusal.specs.Answer.{Answer, Served, Refused, _unless_, _then_, _into_}
 use Rattle.refusal.proofs.Answers.{not-both}
 use Rattle.order.proofs.Cases.{test-cases}
@@ -15,8 +16,7 @@ use Rattle.measure.proofs.Exact.{read-refuses, read-marked-refuses}
 use Rattle.board.specs.Limits.{maxHeight}
 use Rattle.board.specs.Member.{onBoard}
 use Rattle.board.specs.Table.{HeightServed, CellOn}
-use Rattle.board.proofs.Valid.{both}
-use Rattle.board.proofs.Refused.{past-test, by-test}
+use Rattle.refusal.proofs.Refused.{past-test, by-test}
 use Rattle.records.specs.declared.kind.Kind.{Kind}
 use Rattle.records.specs.declared.kind.Kind.the-variants.{Board, Joint, Question, Window, End}
 use Rattle.records.specs.declared.kind.Stage.{Stage}
@@ -26,7 +26,6 @@ use Rattle.records.specs.Kinds.{kindOf, bodyLength, inPlace}
 use Rattle.records.specs.Records.{measureAt, markedAt, bodyOf, recordAt}
 use Rattle.sheet.specs.Table.{UnknownKind, OutOfPlace, CutShort, WholeBody, NoMeasure, NoMarked, NotMeasures, JointOff, HeightOff}
 use Rattle.records.proofs.Recording.{no-kind, out-of-place, cut-short, by-body}
-use Rattle.sheet.proofs.Shape.{fails}
 use Rattle.sheet.proofs.Refusals.{ofBody, by-body-of, by-kind}
 
 -- ---- a kind

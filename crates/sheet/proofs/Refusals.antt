@@ -7,6 +7,7 @@ use native.Mathlib.Omega.{arith}
 use lib.ListN.{length, getD, drop}
 use lib.Dec.{leb, eqb}
 use borrow.Author.Tests.{eqb-true, leb-true, leb-false, lt-leb}
+use Rattle.refusal.proofs.Tests.{fails}
 use Rattle.refusal.specs.Answer.{Answer, Served, Refused, _unless_, _then_, _into_}
 use Rattle.refusal.proofs.Answers.{not-both}
 use Rattle.measure.specs.Measure.{readOf, readMarkedOf}
@@ -26,7 +27,7 @@ use Rattle.sheet.specs.Promise.{readOf as readSheet}
 use Rattle.sheet.specs.Table.{Fault, wrong, no-end, bytes-after}
 use Rattle.records.proofs.Recording.{known-nothing}
 use Rattle.sheet.proofs.Faults.{sheet-faults}
-use Rattle.sheet.proofs.Shape.{not-accepted, fails}
+use Rattle.sheet.proofs.Shape.{not-accepted}
 use Rattle.sheet.proofs.Theorems.{joint-records, room-enough, too-many}
 
 -- the numbers that refuse a body of each kind

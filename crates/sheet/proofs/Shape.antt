@@ -7,6 +7,7 @@ use native.Mathlib.Omega.{arith}
 use lib.ListN.{length, getD, drop}
 use lib.Dec.{leb, ltb, eqb}
 use borrow.Author.Tests.{leb-true, eqb-true}
+use Rattle.refusal.proofs.Tests.{fails}
 use Rattle.refusal.specs.Answer.{Answer, Served, Refused, _unless_}
 use Rattle.refusal.proofs.Answers.{passed}
 use Rattle.board.specs.Limits.{maxHeight}
@@ -78,10 +79,6 @@ accepted-stand (suc n) stage h sheet at rs e =
     by-end r k false i rest g =
         more-rest sheet (nextAfter at r) r (records n (stageAfter (kindIn r)) (heightAfter h r) sheet (nextAfter at r)) rs i g
         λ qs a same. rw (← same) (more r i k (rest qs a))
-
--- a test that fails does not hold
-pub fails : {P : Type 0} → false ≡ true → P
-fails e = let z : _≡_ {A = ℕ} 0 1 = cc in absurd (omega arith)
 
 -- among the requests stands no joint
 pub requests-no-cells : (sheet : List ℕ) {h at : ℕ} {rs : List Record} → Stand sheet Requests h at rs → cellsIn rs ≡ []

@@ -8,6 +8,7 @@ use native.Mathlib.Omega.{arith}
 use lib.ListN.{length}
 use lib.Dec.{leb, ltb}
 use borrow.Author.Tests.{leb-true, ltb-true, leb-false, le-leb, lt-leb, ne-eqb, lt-ltb}
+use Rattle.refusal.proofs.Tests.{both}
 use Rattle.refusal.specs.Answer.{Answer, Served, Refused, _unless_, _then_}
 use Rattle.refusal.proofs.Answers.{not-both}
 use Rattle.order.proofs.Cases.{test-cases}
@@ -15,9 +16,8 @@ use Rattle.bitmap.specs.Directory.{directoryOf}
 use Rattle.board.specs.Check.{checkOf}
 use Rattle.window.specs.Window.{Window, endsFit, windowFits, found, roomed, windowOf}
 use Rattle.board.specs.Table.{WrongLength, WrongEntry, Serves}
-use Rattle.board.proofs.Valid.{both}
 use Rattle.board.proofs.Tests.{not-passed}
-use Rattle.board.proofs.Refused.{past-test, by-test}
+use Rattle.refusal.proofs.Refused.{past-test, by-test}
 use Rattle.window.specs.Table.{WindowOn}
 use Rattle.board.proofs.ExactlyAsked.{those, six, after-six}
 

@@ -6,6 +6,7 @@ use mathlib.Core.Logic.{⊎-elim}
 use mathlib.Core.List.{List, [], _∷_, map}
 use lib.Dec.{eqb}
 use borrow.Author.Tests.{eqb-true}
+use Rattle.refusal.proofs.Tests.{both}
 use Rattle.order.specs.Order.{keep}
 use Rattle.order.proofs.Cases.{test-cases, same?}
 use Rattle.order.proofs.Sets.{In, Rising, has-here, has-there, in-cons}
@@ -15,7 +16,6 @@ use Rattle.board.specs.Member.{among, stored}
 use Rattle.window.specs.Window.{Window, inside, found}
 use Rattle.board.proofs.Codes.{box-path, codes}
 use Rattle.board.proofs.Children.{rising-codes}
-use Rattle.board.proofs.Valid.{both}
 
 -- the cell in row r and column c
 abbrev cell : ℕ → ℕ → Box

@@ -10,6 +10,7 @@ use lib.ListN.{length, drop, replicate, length-map, length-replicate}
 use lib.Seq.{sets, sets-eq}
 use lib.Dec.{leb, ltb}
 use borrow.Author.Tests.{ltb-true, le-leb, lt-leb, lt-ltb}
+use Rattle.refusal.proofs.Tests.{both}
 use Rattle.refusal.specs.Answer.{Answer, Served, Refused, leftIn}
 use Rattle.refusal.specs.declared.Refusal.the-variants.{AnswerRoom}
 use Rattle.refusal.proofs.Answers.{stays, goes-on}
@@ -31,7 +32,6 @@ use Rattle.window.specs.Listing.{Listed, underSpot, Stood}
 use Rattle.board.proofs.Rank.{stands-root}
 use Rattle.board.proofs.Under.{joints-under}
 use Rattle.window.proofs.Spans.{inside-raised}
-use Rattle.board.proofs.Valid.{both}
 use Rattle.window.proofs.Standing.{side-small}
 use Rattle.window.proofs.Listing.{listed-lengths}
 

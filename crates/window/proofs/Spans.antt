@@ -7,6 +7,7 @@ use native.Mathlib.Omega.{arith}
 use native.Mathlib.Nat.{mul-one}
 use lib.Dec.{leb, ltb}
 use borrow.Author.Tests.{leb-true, ltb-true, lt-ltb}
+use Rattle.refusal.proofs.Tests.{both}
 use Rattle.order.specs.Order.{keep}
 use Rattle.order.proofs.Cases.{leb-cases, ltb-cases, test-cases}
 use Rattle.order.proofs.Total.{All, all-nil, all-cons, all-map}
@@ -17,7 +18,6 @@ use Rattle.board.specs.Under.{under}
 use Rattle.window.specs.Window.{Window, inside}
 use Rattle.window.specs.Span.{inSpan, within, meetsSpan, raised}
 use Rattle.board.proofs.Under.{under-within, within-span}
-use Rattle.board.proofs.Valid.{both}
 
 -- at most an end is before the end raised by one
 up-to : (x end : ℕ) → leb x end ≡ ltb x (end + 1)
