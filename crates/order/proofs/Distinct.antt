@@ -138,7 +138,3 @@ tidied l p m n r room long e s =
 -- what is found determines all that is left
 pub left-one : {found rest m o : List ℕ} {n r s : ℕ} → Left found rest m n r → Left found rest o n s → (r ≡ s) × (m ≡ o)
 left-one a b = let q = a .many ∙ sym (b .many) in (q, a .has ∙ rw q (sym (b .has)))
-
--- the first r are what is found
-pub left-take : {found rest m : List ℕ} {n r : ℕ} → Left found rest m n r → take r m ≡ found
-left-take {found} {rest} {n = n} {r = r} s = rw (s .has, append-assoc) (take-at found (replicate (n - r) 0 ++ rest) r (sym (s .many)))
