@@ -107,7 +107,7 @@ fn build_sheet(board: &Board) {
     );
 }
 
-/// Building from lists of rows and columns: the goal of issue 4 is twice the plain version.
+/// Building from lists of rows and columns: the goal is twice the plain version.
 fn build_cells(board: &Board) {
     let rows: Vec<u32> = board.joints.iter().map(|cell| cell.0 as u32).collect();
     let columns: Vec<u32> = board.joints.iter().map(|cell| cell.1 as u32).collect();
