@@ -19,6 +19,8 @@ use Rattle.bitmap.proofs.bit_in as bit-in-fn
 use Rattle.bitmap.proofs.bit_in.Reads as bit-in
 use Rattle.bitmap.proofs.bit_at as bit-at-fn
 use Rattle.bitmap.proofs.bit_at.Reads as bit-at
+use Rattle.bitmap.proofs.word_at as word-at-fn
+use Rattle.bitmap.proofs.word_at.Reads as word-at
 use Rattle.bitmap.proofs.child_of as child-of-fn
 use Rattle.bitmap.proofs.child_of.Reads as child-of
 use Rattle.bitmap.proofs.first_child as first-child-fn
@@ -56,6 +58,9 @@ bit-in-determined κs a asked x y left other p q = (p ∙ sym q, refl)
 
 pub bit-at-determined : Determines bit-at-fn.ended bit-at.Asked bit-at.Learnt
 bit-at-determined κs a asked x y left other p q = (p ∙ sym q, refl)
+
+pub word-at-determined : Determines word-at-fn.ended word-at.Asked word-at.Learnt
+word-at-determined κs a asked x y left other p q = (p .0 ∙ sym (q .0), refl)
 
 pub child-of-determined : Determines child-of-fn.ended child-of.Asked child-of.Learnt
 child-of-determined κs a asked x y left other p q = (λ i. record { 0 = (p .0 ∙ sym (q .0)) i }, refl)

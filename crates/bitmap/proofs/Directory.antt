@@ -1,5 +1,5 @@
 -- The directory by its entries, and what its making and its check keep, byte by byte.
-use Prim.Native.Nat.{ℕ, zero, suc, _+_, _*_, _/_, _%_, _≤_, _<_}
+use Prim.Native.Nat.{ℕ, zero, suc, _+_, _*_, _/_, _≤_, _<_}
 use mathlib.Core.Bool.{Bool, true, false, _&&_}
 use mathlib.Core.Logic.{_↔_}
 use mathlib.Core.Path.{_≡_, refl, sym, ap, _∙_}
@@ -88,41 +88,49 @@ pub block-there : (bytes d : List ℕ) (i : ℕ) → d ≡ directoryOf bytes →
 unfolding blocks
 block-there bytes d i e h = rw (e, length-directory) (omega arith)
 
--- the entries of the blocks that begin before byte i are right
+-- a block that is there begins before the end
+pub block-begins : (bytes : List ℕ) (n : ℕ) → n < blocks (length bytes) → blockBytes * n < length bytes
+unfolding blocks
+block-begins bytes n h = omega arith
+
+-- the first n entries are right
 abbrev pub Filled : List ℕ → ℕ → List ℕ → Type 0
-Filled bytes i d = (k : ℕ) → blockBytes * k < i → getD d k 0 ≡ onesBefore bytes (blockBits * k)
+Filled bytes n d = (k : ℕ) → k < n → getD d k 0 ≡ onesBefore bytes (blockBits * k)
 
--- a block begins at byte i, and its entry is written
-pub filled-store : (bytes d : List ℕ) (i n : ℕ) → Filled bytes i d → i % blockBytes ≡ 0 → i / blockBytes < length d → n ≡ onesBefore bytes (8 * i)
-    → Filled bytes (i + 1) (set d (i / blockBytes) n)
-filled-store bytes d i n f e h s k l =
-    same? k (i / blockBytes) (λ r. rw (r, getD-set-same d (i / blockBytes) n 0 h, s) (ap (onesBefore bytes) (omega arith)))
-    (λ r. getD-set-other d (i / blockBytes) k n 0 r ∙ f k (omega arith))
+-- so many ones before block n, where it begins no later than the end
+abbrev pub Counted : List ℕ → ℕ → ℕ → Type 0
+Counted bytes n ones = (blockBytes * n ≤ length bytes → ones ≡ onesBefore bytes (blockBits * n)) × (ones ≤ onesBefore bytes (8 * length bytes))
 
--- none begins there
-pub filled-skip : (bytes d : List ℕ) (i : ℕ) → Filled bytes i d → (i % blockBytes ≡ 0 → ⊥) → Filled bytes (i + 1) d
-filled-skip bytes d i f n k l = f k (omega arith)
+-- one block on
+pub counted-on : (bytes : List ℕ) (n ones r : ℕ) → Counted bytes n ones → blockBytes * n < length bytes
+    → (blockBytes * (n + 1) ≤ length bytes → onesBefore bytes (blockBits * n) + r ≡ onesBefore bytes (blockBits * (n + 1)))
+    → onesBefore bytes (blockBits * n) + r ≤ onesBefore bytes (8 * length bytes) → Counted bytes (n + 1) (ones + r)
+counted-on bytes n ones r c h sum most =
+    let here : ones ≡ onesBefore bytes (blockBits * n) = c .0 (omega arith) in
+    (λ l. omega (arith, sum l, here), omega (arith, here, most))
+
+-- one entry more is written
+pub filled-store : (bytes d : List ℕ) (n m : ℕ) → Filled bytes n d → n < length d → m ≡ onesBefore bytes (blockBits * n) → Filled bytes (n + 1) (set d n m)
+filled-store bytes d n m f h s k l =
+    same? k n (λ r. rw (r, getD-set-same d n m 0 h) s) (λ r. getD-set-other d n k m 0 r ∙ f k (omega arith))
 
 -- at the end it is the directory
-pub filled-all : (bytes d : List ℕ) (i : ℕ) → Filled bytes i d → length bytes ≤ i → length d ≡ blocks (length bytes) → d ≡ directoryOf bytes
-unfolding blocks
-filled-all bytes d i f h l = directory-is bytes d l (λ k m. f k (omega arith))
+pub filled-all : (bytes d : List ℕ) (n : ℕ) → Filled bytes n d → blocks (length bytes) ≤ n → length d ≡ blocks (length bytes) → d ≡ directoryOf bytes
+filled-all bytes d n f h l = directory-is bytes d l (λ k m. f k (omega arith))
 
 -- an entry that is right
-pub filled-test : (bytes d : List ℕ) (i : ℕ) → Filled bytes i d → i % blockBytes ≡ 0 → getD d (i / blockBytes) 0 ≡ onesBefore bytes (8 * i) → Filled bytes (i + 1) d
-filled-test bytes d i f e h k l =
-    same? k (i / blockBytes) (λ r. rw r (h ∙ ap (onesBefore bytes) (omega arith))) (λ r. f k (omega arith))
+pub filled-test : (bytes d : List ℕ) (n : ℕ) → Filled bytes n d → getD d n 0 ≡ onesBefore bytes (blockBits * n) → Filled bytes (n + 1) d
+filled-test bytes d n f h k l = same? k n (λ r. rw r h) (λ r. f k (omega arith))
 
 -- an entry that is wrong
-pub filled-wrong : (bytes d : List ℕ) (i : ℕ) → i < length bytes → i % blockBytes ≡ 0 → (getD d (i / blockBytes) 0 ≡ onesBefore bytes (8 * i) → ⊥)
-    → false ≡ alike d (directoryOf bytes)
-filled-wrong bytes d i h e n =
-    alike-false d (directoryOf bytes) (λ r. n (block-entry bytes d i r h ∙ ap (onesBefore bytes) (omega arith)))
+pub filled-wrong : (bytes d : List ℕ) (n : ℕ) → n < blocks (length bytes) → (getD d n 0 ≡ onesBefore bytes (blockBits * n) → ⊥) → false ≡ alike d (directoryOf bytes)
+filled-wrong bytes d n h e =
+    alike-false d (directoryOf bytes) (λ r. e (ap (λ (l : List ℕ). getD l n 0) r ∙ directory-at bytes n h))
 
 -- a length that is wrong
 pub length-wrong : (bytes d : List ℕ) → (length d ≡ blocks (length bytes) → ⊥) → false ≡ alike d (directoryOf bytes)
 length-wrong bytes d n = alike-false d (directoryOf bytes) (λ r. n (ap length r ∙ length-directory bytes))
 
 -- every entry is right
-pub filled-right : (bytes d : List ℕ) (i : ℕ) → Filled bytes i d → length bytes ≤ i → length d ≡ blocks (length bytes) → true ≡ alike d (directoryOf bytes)
-filled-right bytes d i f h l = rw (← filled-all bytes d i f h l) (sym (alike-same d))
+pub filled-right : (bytes d : List ℕ) (n : ℕ) → Filled bytes n d → blocks (length bytes) ≤ n → length d ≡ blocks (length bytes) → true ≡ alike d (directoryOf bytes)
+filled-right bytes d n f h l = rw (← filled-all bytes d n f h l) (sym (alike-same d))

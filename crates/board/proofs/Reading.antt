@@ -1,5 +1,5 @@
 -- The check as its loops go: what is known where a level begins and where a group of it is read, and how each goes on.
-use Prim.Native.Nat.{ℕ, zero, suc, _+_, _*_, _/_, _^_, _≤_, _<_}
+use Prim.Native.Nat.{ℕ, zero, suc, _+_, _*_, _/_, _%_, _^_, _≤_, _<_}
 use mathlib.Core.Bool.{Bool, true, false, cond}
 use mathlib.Core.Logic.{_⊎_, inl, inr}
 use mathlib.Core.Path.{_≡_, refl, sym}
@@ -13,10 +13,16 @@ use borrow.Author.Tests.{le-leb, lt-leb, eq-eqb, ne-eqb}
 use Rattle.refusal.specs.Answer.{Answer, Served, Refused, _unless_, _then_}
 use Rattle.refusal.proofs.Answers.{not-both}
 use Rattle.order.specs.Order.{keep}
+use lib.Count.{ones}
+use lib.Bits.{bitAnd}
+use Rattle.order.proofs.Cases.{ltb-cases}
 use Rattle.bitmap.specs.Bits.{groupAt, onesBefore, onesOf}
+use Rattle.bitmap.specs.Words.{wordAt, Bytes}
+use Rattle.bitmap.proofs.Words.{marks, spread, word-ones, groups-pos}
 use Rattle.bitmap.proofs.Ones.{ones-before-suc, ones-small}
 use Rattle.board.specs.Limits.{maxHeight, maxJoints}
 use Rattle.board.specs.Levels.{level, joints, groups}
+use Rattle.board.specs.Run.{run, Sound16}
 use Rattle.board.specs.Check.{missing, empty, faulty, faultAt, firstFault, enough, checkOf}
 use Rattle.board.proofs.Levels.{groups-suc, groups-ones, groups-mono, total-ones}
 use Rattle.board.proofs.Bounds.{level-le}
@@ -98,6 +104,26 @@ group-step bytes n ones i g a h good = record {
     go : (k : ℕ) → (k ≡ g) ⊎ (k < g) → faulty bytes k ≡ false
     go k (inl e) = rw e good
     go k (inr l) = a .sound k l
+
+-- sixteen groups more, read at once
+pub run-step : (bytes : List ℕ) (n ones i g more : ℕ) → AtGroup bytes n ones i g → i + run ≤ length (joints n bytes) → Sound16 bytes g more → more ≤ 64
+    → AtGroup bytes n (ones + more) (i + run) (g + run)
+run-step bytes n ones i g more a h r few = record {
+  place = omega (arith, a .place);
+  within = h;
+  few = omega (arith, a .few);
+  sum = omega (arith, a .sum, r .sum);
+  sound = λ k l. ltb-cases k g (λ m t. a .sound k m) (λ m t. group-sound bytes k (omega (arith, r .there)) (λ pos. r .full k m l));
+}
+
+-- sixteen groups of a word that passes the test
+pub run-sound : (bytes : List ℕ) (g w : ℕ) → Bytes bytes → g % 2 ≡ 0 → w ≡ wordAt bytes (g / 2) 8 → g / 2 + 8 ≤ length bytes
+    → bitAnd (spread w) (marks run) ≡ marks run → (ones w ≤ 64) × Sound16 bytes g (ones w)
+run-sound bytes g w b even e there test =
+    let all = rw e at test in
+    let from : 4 * g ≡ 8 * (g / 2) = omega arith in
+    let to : 4 * (g + run) ≡ 8 * (g / 2 + 8) = omega arith in
+    rw e (word-ones bytes (g / 2) 8 b .1, record { there = omega arith; full = groups-pos bytes g b even all; sum = rw (from, to) (word-ones bytes (g / 2) 8 b .0) })
 
 -- the ones of a level are the boxes of the next
 pub level-step : (bytes : List ℕ) (n ones i g : ℕ) → AtGroup bytes n ones i g → length (joints n bytes) ≤ i → AtLevel bytes (n + 1) g ones

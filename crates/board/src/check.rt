@@ -8,11 +8,13 @@ ghost use Rattle.order.specs.Order.{keep};
 ghost use Rattle.board.specs.Limits.{maxHeight, maxJoints};
 ghost use Rattle.board.specs.Check.{faulty, firstFault, enough, checkOf};
 ghost use Rattle.board.specs.Numbers.{foundOf, numbersOf};
+ghost use Rattle.board.specs.Run.{run, Sound16};
 use crate::MAX_HEIGHT;
 use crate::MAX_JOINTS;
 use bitmap::GroupNo;
 use bitmap::group_at;
 use bitmap::ones_of;
+use bitmap::word_at;
 use refusal::Refusal;
 
 // What the check says: the joints and the boxes of a valid bitmap, or why it is refused.
@@ -41,6 +43,36 @@ fn fault_at(bytes: &[u8], group: GroupNo) -> Fault
         return Fault::Found(Refusal::EmptyGroup);
     }
     Fault::Nothing
+}
+
+// The groups of a word.
+const RUN: u32 = 16;
+
+// The lowest bit of each group of a word.
+const MARKS: u64 = 1229782938247303441;
+
+// The ones of sixteen groups at once, from one on that begins a byte, where so many are left, all are there and none is zero; 0 otherwise.
+fn ones_of_run(bytes: &[u8], group: GroupNo, left: u32) -> u32
+    ensures { λ r. ⌜ (r ≤ 64) × (1 ≤ r → (run ≤ left) × Sound16 (now (bytes .entry)) (group .0) r) ⌝ }
+{
+    let number = group.number();
+    if left < RUN {
+        return 0;
+    }
+    if number % 2 != 0 {
+        return 0;
+    }
+    let at = (number / 2) as usize;
+    if bytes.len() < at + 8 {
+        return 0;
+    }
+    let word = word_at(bytes, at);
+    let pairs = word | (word >> 1);
+    let fours = pairs | (pairs >> 2);
+    if fours & MARKS != MARKS {
+        return 0;
+    }
+    u64::count_ones(word)
 }
 
 // The end of the check, of a board whose groups are all there and of its joints.
@@ -74,13 +106,22 @@ fn check_levels(height: u32, bytes: &[u8]) -> Checked
     let mut level: u32 = 0;
     'levels: while level < height {
         let mut ones: u32 = 0;
-        for n in 0..boxes {
+        let mut n: u32 = 0;
+        while n < boxes {
+            let many = ones_of_run(bytes, group, boxes - n);
+            if 0 < many {
+                ones += many;
+                group = group.after(RUN);
+                n += RUN;
+                continue;
+            }
             fault = fault_at(bytes, group);
             if let Fault::Found(_) = fault {
                 break 'levels;
             }
             ones += ones_of(group_at(bytes, group));
             group = group.after(1);
+            n += 1;
         }
         boxes = ones;
         level += 1;
