@@ -7,7 +7,7 @@ use lib.ListN.{length, getD, length-map, List·getD-map}
 use Rattle.order.proofs.Total.{flatMap-append}
 use Rattle.search.specs.Keys.{distanceOf}
 use Rattle.nearest.specs.Answers.{Handed}
-use Rattle.nearest.specs.Step.{handedIn}
+use Rattle.seek.specs.Step.{handedIn}
 use Rattle.nearest.proofs.Answering.{length-handed, handed-at}
 use Rattle.text.specs.Text.{bytesOf, textOf, Put}
 use Rattle.text.specs.Lines.{askLine, openedLine}

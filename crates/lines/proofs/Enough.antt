@@ -17,8 +17,8 @@ use Rattle.window.specs.Window.{Window, inside, found, endsFit, roomed, windowO
 use Rattle.board.proofs.Valid.{served-valid}
 use Rattle.window.proofs.Listing.{keep-le}
 use Rattle.search.specs.Question.{answerKeys, trail}
-use Rattle.nearest.specs.declared.distance.Place.{Place}
-use Rattle.nearest.specs.Places.{placeOf, inRange}
+use Rattle.keys.specs.declared.distance.Place.{Place}
+use Rattle.keys.specs.Places.{placeOf, inRange}
 use Rattle.nearest.specs.Promise.{maxWanted, workFor, nearestOf}
 use Rattle.lines.specs.Report.{maxAnswers, maxTrail}
 use Rattle.lines.specs.Whole.{reportDesk}

@@ -11,11 +11,11 @@ use Rattle.refusal.proofs.Answers.{passed, went-on}
 use Rattle.bitmap.specs.Directory.{directoryOf, alike}
 use Rattle.board.specs.Check.{checkOf}
 use Rattle.search.specs.Question.{answerKeys, trail}
-use Rattle.nearest.specs.declared.distance.Place.{Place}
+use Rattle.keys.specs.declared.distance.Place.{Place}
 use Rattle.nearest.specs.declared.ask.Nearest.{Nearest}
 use Rattle.nearest.specs.declared.ask.Nearest.the-variants.{Found, Refused as Turned}
-use Rattle.nearest.specs.Places.{placeOf}
-use Rattle.nearest.specs.Step.{handedIn}
+use Rattle.keys.specs.Places.{placeOf}
+use Rattle.seek.specs.Step.{handedIn}
 use Rattle.nearest.specs.Promise.{Rooms, workFor, roomOf, nearestOf, numbersOf, jointsOf}
 use Rattle.nearest.specs.Asked.{roomsOf, Asked}
 use Rattle.nearest.proofs.Handing.{asked-shows}

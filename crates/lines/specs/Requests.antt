@@ -6,8 +6,8 @@ use lib.ListN.{length}
 use Rattle.refusal.specs.Answer.{Answer, Served, Refused}
 use Rattle.window.specs.Window.{ends, found, windowOf}
 use Rattle.search.specs.Question.{answerKeys, trail}
-use Rattle.nearest.specs.declared.distance.Place.{Place}
-use Rattle.nearest.specs.Places.{placeOf}
+use Rattle.keys.specs.declared.distance.Place.{Place}
+use Rattle.keys.specs.Places.{placeOf}
 use Rattle.nearest.specs.Promise.{Rooms, nearestOf}
 use Rattle.records.specs.declared.record.Record.{Record}
 use Rattle.records.specs.declared.record.Record.the-variants.{Board, Joint, Question, Window, End}

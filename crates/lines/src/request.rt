@@ -9,7 +9,7 @@ ghost use Rattle.lines.specs.Requests.{deskOf, requestLines, Chunked};
 ghost use Rattle.lines.specs.Whole.{OnDesk, reportDesk};
 use crate::question::ask_lines;
 use crate::record::window_lines;
-use nearest::distance::Place;
+use keys::distance::Place;
 use records::kind::Stage;
 use records::record::Record;
 use records::record::Recorded;

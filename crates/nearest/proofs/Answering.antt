@@ -9,7 +9,7 @@ use lib.ListN.{length, getD, set, replicate, length-set, length-append, length-m
 use lib.Seq.{getD-set-same, getD-set-other, getD-at, ext-getD}
 use Rattle.search.specs.Keys.{rowOf, colOf, distanceOf}
 use Rattle.nearest.specs.declared.answer.Answer.{Answer}
-use Rattle.nearest.specs.Step.{handedIn}
+use Rattle.seek.specs.Step.{handedIn}
 use Rattle.nearest.specs.Answers.{zeroAnswer, answerOf, filled}
 
 -- as many as are handed out

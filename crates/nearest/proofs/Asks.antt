@@ -18,8 +18,8 @@ use Rattle.board.specs.Check.{checkOf, firstFault, faults, enough}
 use Rattle.board.specs.Ready.{Ready}
 use Rattle.board.proofs.Valid.{Sound, served-valid}
 use Rattle.search.specs.Question.{answerKeys, trail}
-use Rattle.nearest.specs.declared.distance.Place.{Place}
-use Rattle.nearest.specs.Places.{placeOf, inRange, Named}
+use Rattle.keys.specs.declared.distance.Place.{Place}
+use Rattle.keys.specs.Places.{placeOf, inRange, Named}
 use Rattle.nearest.specs.Promise.{maxWanted, Rooms, workFor, roomOf, nearestOf}
 
 -- what is served is one thing

@@ -24,8 +24,8 @@ use Rattle.board.proofs.ExactlyAsked.{those, six, after-six}
 use Rattle.search.specs.Question.{answerKeys, trail}
 use Rattle.search.proofs.PlainJoints.{answerIn}
 use Rattle.search.proofs.Plain.{answer-plain, trail-plain, trail-exactly}
-use Rattle.nearest.specs.declared.distance.Place.{Place}
-use Rattle.nearest.specs.Places.{placeOf, inRange, Named}
+use Rattle.keys.specs.declared.distance.Place.{Place}
+use Rattle.keys.specs.Places.{placeOf, inRange, Named}
 use Rattle.nearest.specs.Promise.{maxWanted, Rooms, workFor, nearestOf}
 use Rattle.nearest.specs.Table.{CountServed, AnswersShort, WorkShort, TrailShort}
 use Rattle.nearest.proofs.Asks.{board-sound}

@@ -18,18 +18,18 @@ use Rattle.search.specs.Question.{answerKeys}
 use Rattle.search.proofs.PlainJoints.{answerIn}
 use Rattle.search.proofs.Plain.{answer-plain}
 use Rattle.search.proofs.Distances.{answer-near, answer-few}
-use Rattle.nearest.specs.declared.distance.Place.{Place}
-use Rattle.nearest.specs.declared.step.Tally.{Tally}
+use Rattle.keys.specs.declared.distance.Place.{Place}
+use Rattle.seek.specs.declared.step.Tally.{Tally}
 use Rattle.nearest.specs.declared.ask.Nearest.{Nearest}
 use Rattle.nearest.specs.declared.ask.Nearest.the-variants.{Found, Refused as Turned}
-use Rattle.nearest.specs.Places.{placeOf, Named}
-use Rattle.nearest.specs.Step.{handedIn}
-use Rattle.nearest.specs.Search.{Reached}
+use Rattle.keys.specs.Places.{placeOf, Named}
+use Rattle.seek.specs.Step.{handedIn}
+use Rattle.seek.specs.Search.{Reached}
 use Rattle.nearest.specs.Answers.{Handed}
 use Rattle.nearest.specs.Promise.{nearestOf, jointsOf, foundIn}
 use Rattle.nearest.specs.Asked.{roomsOf, handedOut, Asked}
 use Rattle.nearest.proofs.Answering.{handed-at}
-use Rattle.nearest.proofs.Going.{ready-sound}
+use Rattle.seek.proofs.Going.{ready-sound}
 use Rattle.nearest.proofs.Asks.{passOf′, served-may, served-fits}
 
 -- ---- at the end of a list

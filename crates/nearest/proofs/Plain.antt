@@ -16,11 +16,11 @@ use Rattle.search.proofs.PlainJoints.{answerIn}
 use Rattle.search.proofs.Plain.{answer-plain, trail-plain}
 use Rattle.nearest.specs.declared.answer.Answer.{Answer}
 use Rattle.nearest.specs.declared.ask.Nearest.the-variants.{Found, Refused as Turned}
-use Rattle.nearest.specs.Places.{placeAt, placeOf}
+use Rattle.keys.specs.Places.{placeOf}
 use Rattle.nearest.specs.Answers.{zeroAnswer, answerOf, filled}
-use Rattle.nearest.specs.Kept.{Lent, rooms, Kept}
+use Rattle.nearest.specs.Kept.{placeAt, Lent, rooms, Kept}
 use Rattle.nearest.specs.Plain.{jointOf, Plainly}
-use Rattle.nearest.proofs.Going.{ready-sound}
+use Rattle.seek.proofs.Going.{ready-sound}
 use Rattle.nearest.proofs.Asks.{served-may}
 
 -- what a question that is served leaves, without keys

@@ -14,9 +14,9 @@ use Rattle.search.proofs.Keys.{Fits, Earlier, earlier-less, less-earlier, same-
 use Rattle.search.proofs.Near.{near-quarter}
 use Rattle.search.proofs.Distances.{maxDistance, near-most}
 use Rattle.search.proofs.PlainDistances.{distance-plain}
-use Rattle.nearest.specs.declared.step.Tally.{Tally}
-use Rattle.nearest.specs.Step.{Searching}
-use Rattle.nearest.proofs.Steps.{pending-within}
+use Rattle.seek.specs.declared.step.Tally.{Tally}
+use Rattle.seek.specs.Step.{Searching}
+use Rattle.seek.proofs.Steps.{pending-within}
 
 -- at each step of a search, what is pending and what is handed out are never more than the joints, and one on an empty board
 pub pending-has-room : {p : Place} {bytes d : List ℕ} {t : Tally} {keys corners : List ℕ} (s : Searching p bytes d t keys corners) → t .pending + t .handed ≤ max 1 (s .joints)

@@ -5,9 +5,9 @@ use mathlib.Core.List.{List, _++_, reverse}
 use lib.ListN.{length, replicate}
 use Rattle.refusal.specs.Answer.{leftIn}
 use Rattle.search.specs.Question.{answerKeys, trail}
-use Rattle.nearest.specs.declared.distance.Place.{Place}
+use Rattle.keys.specs.declared.distance.Place.{Place}
 use Rattle.nearest.specs.declared.ask.Nearest.{Nearest}
-use Rattle.nearest.specs.Places.{placeOf}
+use Rattle.keys.specs.Places.{placeOf}
 use Rattle.nearest.specs.Promise.{Rooms, nearestOf, numbersOf, foundIn}
 
 -- the rooms of lists

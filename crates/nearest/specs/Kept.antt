@@ -6,11 +6,16 @@ use lib.ListN.{length, replicate}
 use lib.IntN.{ℤ}
 use Rattle.refusal.specs.Answer.{leftIn}
 use Rattle.search.specs.Question as question
+use Rattle.keys.specs.declared.distance.Place.{Place}
 use Rattle.nearest.specs.declared.answer.Answer.{Answer}
 use Rattle.nearest.specs.declared.ask.Nearest.{Nearest}
-use Rattle.nearest.specs.Places.{placeAt, placeOf}
+use Rattle.keys.specs.Places.{placeOf}
 use Rattle.nearest.specs.Answers.{filled}
 use Rattle.nearest.specs.Promise.{Rooms, nearestOf, numbersOf, foundIn}
+
+-- the place that a row and a column name
+abbrev pub placeAt : ℤ → ℤ → Place
+placeAt row column = record { row = row; column = column }
 
 -- the lists lent to a question: for the answer, for the work, for the trail
 pub record Lent : Type 0 where

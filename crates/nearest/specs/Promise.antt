@@ -11,12 +11,12 @@ use Rattle.bitmap.specs.Directory.{directoryOf, alike}
 use Rattle.board.specs.Levels.{joints}
 use Rattle.board.specs.Check.{checkOf}
 use Rattle.search.specs.Question.{answerKeys, trail}
-use Rattle.nearest.specs.declared.distance.Place.{Place}
+use Rattle.keys.specs.declared.distance.Place.{Place}
 use Rattle.nearest.specs.declared.gate.Gate.{Gate}
 use Rattle.nearest.specs.declared.gate.Gate.the-variants.{Open, Shut}
 use Rattle.nearest.specs.declared.ask.Nearest.{Nearest}
 use Rattle.nearest.specs.declared.ask.Nearest.the-variants.{Found, Refused as Turned}
-use Rattle.nearest.specs.Places.{placeOf, inRange}
+use Rattle.keys.specs.Places.{placeOf, inRange}
 
 -- the most joints that a question may ask for
 abbrev pub maxWanted : ℕ

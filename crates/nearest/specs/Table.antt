@@ -4,8 +4,8 @@ use mathlib.Core.Logic.{_⊎_}
 use mathlib.Core.List.{List}
 use lib.ListN.{length}
 use Rattle.search.specs.Plain.{Joint, FirstJoints, Trail}
-use Rattle.nearest.specs.declared.distance.Place.{Place}
-use Rattle.nearest.specs.Places.{placeOf}
+use Rattle.keys.specs.declared.distance.Place.{Place}
+use Rattle.keys.specs.Places.{placeOf}
 use Rattle.nearest.specs.Promise.{maxWanted, Rooms, workFor}
 
 -- 7: Places has `Named`: row and column are each from −1,999 to 1,999

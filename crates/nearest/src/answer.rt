@@ -4,10 +4,10 @@ ghost use mathlib.Core.List.{map};
 ghost use Prim.Native.Nat.{_^_, _<_, _≤_};
 ghost use lib.ListN.{length, set, getD};
 ghost use Rattle.search.specs.Keys.{distanceOf};
-ghost use Rattle.nearest.specs.Step.{handedIn};
+ghost use Rattle.seek.specs.Step.{handedIn};
 ghost use Rattle.nearest.specs.Answers.{zeroAnswer, answerOf, filled, Handed};
-use crate::distance;
-use crate::entry;
+use keys::distance;
+use keys::entry;
 
 // A joint of an answer.
 pub struct Answer {

@@ -5,11 +5,11 @@ ghost use Prim.Native.Nat.{_-_, _≤_};
 ghost use lib.ListN.{length, drop, replicate};
 ghost use Rattle.nearest.specs.Asked.{Asked};
 ghost use Rattle.nearest.specs.Promise.{jointsOf};
-use crate::distance::Place;
-use crate::find::find;
 use crate::gate::Gate;
 use crate::gate::may_ask;
+use keys::distance::Place;
 use refusal::Refusal;
+use seek::find::find;
 
 // The answer to a question: the joints found and the boxes opened, or a refusal.
 pub enum Nearest {

@@ -6,10 +6,10 @@ ghost use Rattle.refusal.specs.Answer.{_unless_, _then_};
 ghost use Rattle.bitmap.specs.Directory.{directoryOf, alike};
 ghost use Rattle.board.specs.Check.{checkOf};
 ghost use Rattle.nearest.specs.Promise.{passOf, roomOf, workFor};
-use crate::distance::Place;
-use crate::distance::is_named;
 use board::ask::ask;
 use board::check::Checked;
+use keys::distance::Place;
+use keys::distance::is_named;
 use refusal::Refusal;
 
 // The most joints that a question may ask for.

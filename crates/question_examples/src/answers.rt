@@ -2,9 +2,9 @@
 ghost use mathlib.Core.Path.{_≡_};
 ghost use Prim.Native.Nat.{_<_, _≤_};
 ghost use lib.ListN.{length};
+use keys::distance::Place;
 use nearest::answer::Answer;
 use nearest::ask::Nearest;
-use nearest::distance::Place;
 
 // The most places that an answer list has here.
 pub(crate) const ROOM: usize = 300;

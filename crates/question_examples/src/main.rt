@@ -7,8 +7,8 @@ use crate::answers::asked;
 use crate::stream::Case;
 use crate::stream::case_at;
 use board::directory::make_directory;
+use keys::distance::Place;
 use nearest::ask::Nearest;
-use nearest::distance::Place;
 
 mod answers;
 mod stream;

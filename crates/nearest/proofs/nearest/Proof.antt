@@ -45,7 +45,7 @@ use denote.Triple.Clauses.{ensured, lasts}
 use denote.Triple.Table.{entered, cited}
 use denote.Triple.Walked.{says, Stays, stay-dropped, stay-slice, gave-slice, walkOf, goes-dropped, goes-slice, goes-gave-slice, Walks, ends-at, walked, walk-meets}
 use denote.Exit.{yes}
-use Rattle.nearest.specs.Step.{handedIn}
+use Rattle.seek.specs.Step.{handedIn}
 use Rattle.nearest.specs.Answers.{filled, Handed}
 use Rattle.nearest.specs.Asked.{Asked}
 use Rattle.nearest.specs.Promise.{jointsOf}
@@ -55,9 +55,9 @@ use Rattle.nearest.proofs.ask.Nearest as T-Nearest
 use Rattle.nearest.proofs.ask.Nearest.Laws as L-Nearest
 use Rattle.nearest.specs.declared.answer.Answer.{Answer}
 use Rattle.nearest.proofs.answer.Answer as T-Answer
-use Rattle.nearest.specs.declared.distance.Place.{Place}
-use Rattle.nearest.proofs.distance.Place as T-Place
-use Rattle.nearest.proofs.distance.Place.Laws as L-Place
+use Rattle.keys.specs.declared.distance.Place.{Place}
+use Rattle.keys.proofs.distance.Place as T-Place
+use Rattle.keys.proofs.distance.Place.Laws as L-Place
 use Rattle.nearest.proofs.Handing.{asked-shows}
 use Rattle.nearest.proofs.Again.{LentAgain, lends-at, back-at}
 use Rattle.nearest.proofs.Unasked.{unasked}

@@ -2,7 +2,7 @@ use mathlib.Core.Path.{sym}
 use native.Mathlib.Omega.{arith}
 use lib.ListN.{take}
 use lib.Seq.{length-take-le}
-use Rattle.nearest.specs.Step.{handedIn}
+use Rattle.seek.specs.Step.{handedIn}
 use Rattle.nearest.proofs.Answering.{length-handed}
 use Rattle.text.specs.Lines.{askLine, openedLine}
 use Rattle.text.proofs.Putting.{put-length, put-then}

@@ -4,7 +4,7 @@ use mathlib.Core.List.{map, flatMap}
 use native.Mathlib.Omega.{arith}
 use lib.ListN.{length, take}
 use lib.Seq.{take-length}
-use Rattle.nearest.specs.Step.{handedIn}
+use Rattle.seek.specs.Step.{handedIn}
 use Rattle.text.specs.Text.{bytesOf, textOf, Put}
 use Rattle.lines.specs.Report.{keyLine}
 use Rattle.text.proofs.Putting.{put-none, put-next, part-fits, put-length}

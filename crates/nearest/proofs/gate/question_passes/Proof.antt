@@ -1,5 +1,5 @@
 -- `nearest::gate::question_passes` meets its contract. Assumes nothing.
-use Rattle.nearest.specs.Places.{inRange}
+use Rattle.keys.specs.Places.{inRange}
 use Prim.Native.Nat.{max}
 use native.Mathlib.Omega.{arith}
 use borrow.Author.Tests.{le-leb, lt-leb}

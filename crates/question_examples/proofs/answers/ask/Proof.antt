@@ -47,9 +47,9 @@ use Rattle.nearest.specs.Kept.{Kept}
 use Rattle.nearest.specs.declared.ask.Nearest.{Nearest}
 use Rattle.nearest.proofs.ask.Nearest as T-Nearest
 use Rattle.nearest.proofs.ask.Nearest.Laws as L-Nearest
-use Rattle.nearest.specs.declared.distance.Place.{Place}
-use Rattle.nearest.proofs.distance.Place as T-Place
-use Rattle.nearest.proofs.distance.Place.Laws as L-Place
+use Rattle.keys.specs.declared.distance.Place.{Place}
+use Rattle.keys.proofs.distance.Place as T-Place
+use Rattle.keys.proofs.distance.Place.Laws as L-Place
 use Rattle.nearest.specs.declared.answer.Answer.{Answer}
 use Rattle.nearest.proofs.answer.Answer as T-Answer
 use Rattle.nearest.proofs.Again.{LentAgain, lends-at, back-at}

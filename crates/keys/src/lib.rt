@@ -1,0 +1,3 @@
+// Places, squared distances, and pending entries as keys.
+pub mod distance;
+pub mod entry;

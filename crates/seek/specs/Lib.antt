@@ -1,0 +1,4 @@
+pub mod Pending
+pub mod Opening
+pub mod Step
+pub mod Search

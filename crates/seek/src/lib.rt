@@ -1,0 +1,5 @@
+// The search of a question.
+pub mod find;
+mod open;
+mod pending;
+pub mod step;

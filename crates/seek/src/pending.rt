@@ -1,0 +1,38 @@
+// The pending entries, in the first places of the two work lists. Only these two functions know how they lie there.
+ghost use mathlib.Core.Path.{_≡_};
+ghost use Prim.Native.Nat.{_<_, _≤_};
+ghost use mathlib.Core.List.{_∷_, []};
+ghost use lib.ListN.{length};
+ghost use Rattle.search.specs.Entries.{pack};
+ghost use Rattle.seek.specs.Pending.{Taken, Added};
+
+// An entry as the work lists hold it: its key, and of a box its levels and its corner.
+pub(crate) struct Entry {
+    pub key: u64,
+    pub corner: u32,
+}
+
+// The smallest of the pending entries leaves.
+pub(crate) fn take(keys: &mut [u64], corners: &mut [u32], pending: usize) -> Entry
+    requires { ⌜ (0 < pending) × (pending ≤ length (now keys)) × (pending ≤ length (now corners)) ⌝ }
+    ensures { λ r. ⌜ Taken pending (now (keys .entry)) (now (corners .entry)) (r .key) (r .corner) (now (keys .exit)) (now (corners .exit)) ⌝ }
+{
+    let at = order::least(keys, pending);
+    let last = pending - 1;
+    let key = keys[at];
+    let corner = corners[at];
+    keys[at] = keys[last];
+    corners[at] = corners[last];
+    Entry { key, corner }
+}
+
+// One more entry is pending.
+pub(crate) fn add(keys: &mut [u64], corners: &mut [u32], pending: usize, e: Entry)
+    requires { ⌜ (pending < length (now keys)) × (pending < length (now corners)) ⌝ }
+    ensures { λ _. ⌜ Added pending (pack (e .key) (e .corner) ∷ []) (now (keys .entry)) (now (corners .entry)) (now (keys .exit)) (now (corners .exit)) ⌝ }
+{
+    let key = e.key;
+    let corner = e.corner;
+    keys[pending] = key;
+    corners[pending] = corner;
+}
