@@ -25,7 +25,7 @@ use Rattle.search.proofs.Board.{served-answer, served-trail, served-room, trail
 use Rattle.search.proofs.Underway.{Underway, underway-start}
 use Rattle.search.proofs.Boxes.{pending-next, pending-room}
 use Rattle.seek.specs.declared.step.Tally.{Tally}
-use Rattle.seek.specs.Pending.{pendingIn}
+use Rattle.seek.specs.Pending.{pendingIn, Heaped}
 use Rattle.seek.specs.Step.{handedIn, Goes, Stepped}
 use Rattle.seek.specs.Search.{Begins, Reached, Ends}
 use Rattle.seek.proofs.Steps.{pending-long, least-key}
@@ -79,6 +79,7 @@ pub record Known (p : Place) (h : ℕ) (bytes directory : List ℕ) (k room keys
   pub corners-room : max 1 (length (joints h bytes)) ≤ length corners
   pub keys-are : length keys ≡ keys-long
   pub corners-are : length corners ≡ corners-long
+  pub heaped : Heaped (t .pending) keys
 
 -- before the first step
 pub known-start : {p : Place} {bytes directory : List ℕ} {k : ℕ} {t : Tally} {keys corners trailList : List ℕ} (b : Begins p bytes directory k t keys corners trailList)
@@ -99,6 +100,7 @@ known-start {p} {bytes} {k = k} {keys = keys} {corners = corners} b =
       corners-room = b .corners-room;
       keys-are = refl;
       corners-are = refl;
+      heaped = λ j lo hi. absurd (omega arith);
     })
 
 module _ {p : Place} {h : ℕ} {bytes directory : List ℕ} {k room kl cl : ℕ} {t : Tally} {keys corners trailList : List ℕ} (s : Known p h bytes directory k room kl cl t keys corners trailList) where
@@ -121,6 +123,7 @@ module _ {p : Place} {h : ℕ} {bytes directory : List ℕ} {k room kl cl : ℕ}
           in-corners = s .in-corners;
           keys-room = s .keys-room;
           corners-room = s .corners-room;
+          heaped = s .heaped;
         };
         fewer = fewer;
         some = some;
@@ -157,6 +160,7 @@ module _ {p : Place} {h : ℕ} {bytes directory : List ℕ} {k room kl cl : ℕ}
         corners-room = omega (arith, d .corners-long, s .corners-room);
         keys-are = d .keys-long ∙ s .keys-are;
         corners-are = d .corners-long ∙ s .corners-are;
+        heaped = d .heaped;
       }
 
   -- the trail list keeps its length

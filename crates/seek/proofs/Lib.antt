@@ -1,3 +1,6 @@
+pub mod Pairs
+pub mod Raising
+pub mod Heaped
 pub mod Lists
 pub mod Packing
 pub mod Quarter

@@ -10,6 +10,7 @@ use lib.Dec.{eqb}
 use borrow.Author.Tests.{eq-eqb, ne-eqb, eqb-true, eqb-false}
 use Rattle.order.specs.Order.{keep}
 use Rattle.order.specs.Bag.{count}
+use Rattle.order.specs.Heap.{parent}
 use Rattle.order.proofs.Cases.{same-self}
 use Rattle.order.proofs.Total.{adds}
 use Rattle.order.proofs.Bag.{Each, each-index}
@@ -24,7 +25,7 @@ use Rattle.search.proofs.Board.{served-room, board-entries}
 use Rattle.search.proofs.Visit.{boxes-kept, joints-kept}
 use Rattle.search.proofs.Boxes.{pending-box, pending-joint, pending-room, length-kids}
 use Rattle.seek.specs.declared.step.Tally.{Tally}
-use Rattle.seek.specs.Pending.{packed, pendingIn, Taken}
+use Rattle.seek.specs.Pending.{packed, pendingIn, Heaped, Taken}
 use Rattle.seek.specs.Opening.{BoxOpens, OnesFit, Opened}
 use Rattle.seek.specs.Step.{handedIn, Searching, Goes, Stepped}
 use Rattle.seek.proofs.Lists.{packed-long, packed-at}
@@ -48,6 +49,10 @@ pending-behind (suc n) i k [] cs h = refl
 pending-behind (suc n) zero k (x ∷ ks) cs h = absurd (omega arith)
 pending-behind (suc n) (suc i) k (x ∷ ks) [] h = refl
 pending-behind (suc n) (suc i) k (x ∷ ks) (c ∷ cs) h = ap (λ (l : List ℕ). pack x c ∷ l) (pending-behind n i k ks cs (omega arith))
+
+-- and heap order is theirs alone
+pub heaped-behind : (n i k : ℕ) (ks : List ℕ) → n ≤ i → Heaped n ks → Heaped n (set ks i k)
+heaped-behind n i k ks h o j lo hi = rw (getD-set-other ks i j k 0 (λ q. omega arith), getD-set-other ks i (parent j) k 0 (λ q. omega arith)) (o j lo hi)
 
 -- what is handed out lies in the last places alone
 pub handed-same : (m n : ℕ) (ks ks′ : List ℕ) → length ks′ ≡ length ks → n + m ≤ length ks → ((i : ℕ) → n ≤ i → getD ks′ i 0 ≡ getD ks i 0) → handedIn m ks′ ≡ handedIn m ks
@@ -88,7 +93,7 @@ module _ (p : Place) (bytes directory : List ℕ) (t : Tally) (ks cs : List ℕ)
   was-there = omega (arith, tk .leaves (pack x c), same-self (pack x c))
 
   least : Each (λ y. x ≤ y / 2 ^ 32) (pendingIn (t .pending) ks cs)
-  least = least-key (t .pending) ks cs x (go .searching .in-keys) (go .searching .in-corners) (tk .smallest)
+  least = least-key (t .pending) ks cs x (go .searching .in-keys) (go .searching .in-corners) (tk .smallest (go .searching .heaped))
 
   held : t .pending + t .handed ≤ max 1 (go .searching .joints)
   held = pending-within (go .searching)
@@ -138,7 +143,7 @@ module _ (p : Place) (bytes directory : List ℕ) (t : Tally) (ks cs : List ℕ)
         key = x;
         corner = c;
         corner-fits = tk .corner-fits;
-        smallest = tk .smallest;
+        smallest = tk .smallest (go .searching .heaped);
         rest = pendingIn (t .pending - 1) ks′ cs′;
         leaves = tk .leaves;
         comes = λ y. rw (none, pending-behind (t .pending - 1) (length ks′ - 1 - t .handed) x ks′ cs′ (omega (arith, tk .keys-long, room))) (omega arith);
@@ -149,6 +154,7 @@ module _ (p : Place) (bytes directory : List ℕ) (t : Tally) (ks cs : List ℕ)
         handed-is = rw is-joint refl;
         keys-long = length-set ks′ _ x ∙ tk .keys-long;
         corners-long = tk .corners-long;
+        heaped = heaped-behind (t .pending - 1) (length ks′ - 1 - t .handed) x ks′ (omega (arith, tk .keys-long, room)) (tk .ordered (go .searching .heaped));
       }
 
   -- the box that left is opened: its group joins the trail and its ones are pending
@@ -166,7 +172,7 @@ module _ (p : Place) (bytes directory : List ℕ) (t : Tally) (ks cs : List ℕ)
         key = x;
         corner = c;
         corner-fits = tk .corner-fits;
-        smallest = tk .smallest;
+        smallest = tk .smallest (go .searching .heaped);
         rest = pendingIn (t .pending - 1) ks′ cs′;
         leaves = tk .leaves;
         comes = λ y. rw counted (o .added .joins y);
@@ -178,6 +184,7 @@ module _ (p : Place) (bytes directory : List ℕ) (t : Tally) (ks cs : List ℕ)
         handed-is = rw no-joint (omega arith);
         keys-long = o .added .keys-long ∙ tk .keys-long;
         corners-long = o .added .corners-long ∙ tk .corners-long;
+        heaped = rw counted (o .added .ordered (tk .ordered (go .searching .heaped)));
       }
 
 -- a key that is a joint's

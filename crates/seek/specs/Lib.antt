@@ -1,4 +1,5 @@
 pub mod Pending
+pub mod Pairs
 pub mod Opening
 pub mod Step
 pub mod Search

@@ -15,14 +15,14 @@ use Rattle.search.specs.Entries.{entryOf, pack, packOf}
 use Rattle.search.proofs.Visit.{jointsIn}
 use Rattle.search.proofs.Underway.{Underway}
 use Rattle.seek.specs.declared.step.Tally.{Tally}
-use Rattle.seek.specs.Pending.{pendingIn}
+use Rattle.seek.specs.Pending.{pendingIn, Heaped}
 
 -- the keys of the joints handed out stand at the end of the keys, the first in the last place
 unfoldable pub handedIn : ℕ → List ℕ → List ℕ
 handedIn zero keys = []
 handedIn (suc m) keys = handedIn m keys ++ getD keys (length keys - suc m) 0 ∷ []
 
--- a search of a board for joints is under way: what left so far, what is pending, and how it is tallied
+-- a search of a board for joints is under way: what left so far, what is pending, in heap order, and how it is tallied
 pub record Searching (p : Place) (bytes directory : List ℕ) (t : Tally) (keys corners : List ℕ) : Type 0 where
   pub height : ℕ
   pub joints : ℕ
@@ -38,6 +38,7 @@ pub record Searching (p : Place) (bytes directory : List ℕ) (t : Tally) (keys 
   pub in-corners : t .pending ≤ length corners
   pub keys-room : max 1 joints ≤ length keys
   pub corners-room : max 1 joints ≤ length corners
+  pub heaped : Heaped (t .pending) keys
 
 -- a step is to be taken: fewer joints than wanted are handed out, and something is pending
 pub record Goes (p : Place) (bytes directory : List ℕ) (t : Tally) (keys corners : List ℕ) : Type 0 where
@@ -61,3 +62,4 @@ pub record Stepped (p : Place) (bytes : List ℕ) (t : Tally) (keys corners trai
   pub handed-is : t′ .handed ≡ t .handed + length (keep isJoint (key ∷ []))
   pub keys-long : length keys′ ≡ length keys
   pub corners-long : length corners′ ≡ length corners
+  pub heaped : Heaped (t′ .pending) keys′

@@ -1,5 +1,6 @@
 // The search of a question.
 pub mod find;
+mod heap;
 mod open;
 mod pending;
 pub mod step;

@@ -1,10 +1,11 @@
-// The pending entries, in the first places of the two work lists. Only these two functions know how they lie there.
+// The pending entries, a heap in the first places of the two work lists.
 ghost use mathlib.Core.Path.{_≡_};
 ghost use Prim.Native.Nat.{_<_, _≤_};
 ghost use mathlib.Core.List.{_∷_, []};
 ghost use lib.ListN.{length};
 ghost use Rattle.search.specs.Entries.{pack};
 ghost use Rattle.seek.specs.Pending.{Taken, Added};
+use crate::heap;
 
 // An entry as the work lists hold it: its key, and of a box its levels and its corner.
 pub(crate) struct Entry {
@@ -17,12 +18,12 @@ pub(crate) fn take(keys: &mut [u64], corners: &mut [u32], pending: usize) -> Ent
     requires { ⌜ (0 < pending) × (pending ≤ length (now keys)) × (pending ≤ length (now corners)) ⌝ }
     ensures { λ r. ⌜ Taken pending (now (keys .entry)) (now (corners .entry)) (r .key) (r .corner) (now (keys .exit)) (now (corners .exit)) ⌝ }
 {
-    let at = order::least(keys, pending);
     let last = pending - 1;
-    let key = keys[at];
-    let corner = corners[at];
-    keys[at] = keys[last];
-    corners[at] = corners[last];
+    let key = keys[0];
+    let corner = corners[0];
+    keys[0] = keys[last];
+    corners[0] = corners[last];
+    heap::sift_down(keys, corners, last);
     Entry { key, corner }
 }
 
@@ -35,4 +36,5 @@ pub(crate) fn add(keys: &mut [u64], corners: &mut [u32], pending: usize, e: Entr
     let corner = e.corner;
     keys[pending] = key;
     corners[pending] = corner;
+    heap::sift_up(keys, corners, pending);
 }
