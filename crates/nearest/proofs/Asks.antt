@@ -6,7 +6,7 @@ use mathlib.Core.List.{List, [], _∷_}
 use lib.ListN.{length}
 use lib.Dec.{leb}
 use lib.IntN.{natAbs}
-use borrow.Author.Tests.{leb-true, le-leb, lt-leb}
+use borrow.Author.Tests.{leb-true}
 use Rattle.refusal.proofs.Tests.{both}
 use Rattle.refusal.specs.Answer.{Answer, Served, Refused, _unless_, _then_}
 use Rattle.refusal.proofs.Answers.{not-both, passed, went-on}
@@ -70,7 +70,7 @@ pub record May (h : ℕ) (bytes d : List ℕ) (p : Place) (k : ℕ) (r : Rooms) 
   pub corners : workFor h bytes ≤ r .corners
 
 -- the last test alone
-only : (n : ℕ) (t : Bool) {y : Bool} → (n unless t) ≡ Served y → t ≡ true
+pub only : (n : ℕ) (t : Bool) {y : Bool} → (n unless t) ≡ Served y → t ≡ true
 only n true e = refl
 only n false e = absurd (not-both e)
 
@@ -120,18 +120,9 @@ module _ (h : ℕ) (bytes d : List ℕ) (p : Place) (k : ℕ) (r : Rooms) where
   refused-before e = pass-refused (checkOf h bytes) 6 (alike d (directoryOf bytes)) (roomOf p k (workFor h bytes) r) _ e
 
   -- else it goes by the trail's room
-  goes-by : passOf′ ≡ Served true → nearestOf h bytes d p k r ≡
+  pub goes-by : passOf′ ≡ Served true → nearestOf h bytes d p k r ≡
       (11 unless leb (length (trail (placeOf p) h bytes k)) (r .trail) then Served (length (answerKeys (placeOf p) h bytes k) ∷ length (trail (placeOf p) h bytes k) ∷ []))
   unfolding nearestOf
   goes-by e =
       let q = pass-served (checkOf h bytes) 6 (alike d (directoryOf bytes)) (roomOf p k (workFor h bytes) r) e in
       rw (q .first, q .tested, q .asked) refl
-
-  -- refused by 11 where the trail is longer
-  pub refused-short : passOf′ ≡ Served true → r .trail < length (trail (placeOf p) h bytes k) → nearestOf h bytes d p k r ≡ Refused 11
-  refused-short e more = goes-by e ∙ rw (lt-leb (length (trail (placeOf p) h bytes k)) (r .trail) more) refl
-
-  -- served where it is not
-  pub served-fits : passOf′ ≡ Served true → length (trail (placeOf p) h bytes k) ≤ r .trail
-      → nearestOf h bytes d p k r ≡ Served (length (answerKeys (placeOf p) h bytes k) ∷ length (trail (placeOf p) h bytes k) ∷ [])
-  served-fits e fits = goes-by e ∙ rw (le-leb (length (trail (placeOf p) h bytes k)) (r .trail) fits) refl

@@ -22,6 +22,8 @@ use Rattle.nearest.specs.Kept.{Kept}
 use Rattle.nearest.proofs.nearest as nearest-fn
 use Rattle.nearest.proofs.ask.asked as asked-fn
 use Rattle.nearest.proofs.ask.asked.Reads as asked
+use Rattle.nearest.proofs.on_place.asked_on as asked-on-fn
+use Rattle.nearest.proofs.on_place.asked_on.Reads as asked-on
 use Rattle.nearest.proofs.answer.answer_of as answer-of-fn
 use Rattle.nearest.proofs.answer.answer_of.Reads as answer-of
 
@@ -59,6 +61,13 @@ nearest-determined κs a asked x y left other p q =
 
 pub asked-determined : Determines asked-fn.ended asked.Asked asked.Learnt
 asked-determined κs a given x y left other p q =
+    let keys = p .keys-left ∙ sym (q .keys-left) in
+    let corners = p .corners-left ∙ sym (q .corners-left) in
+    let trail = p .trail-left ∙ sym (q .trail-left) in
+    (answers-alike x y (p .number ∙ sym (q .number)), λ i. (tt, (tt, (tt, (tt, (tt, (tt, (keys i, (corners i, (trail i, tt))))))))))
+
+pub asked-on-determined : Determines asked-on-fn.ended asked-on.Asked asked-on.Learnt
+asked-on-determined κs a given x y left other p q =
     let keys = p .keys-left ∙ sym (q .keys-left) in
     let corners = p .corners-left ∙ sym (q .corners-left) in
     let trail = p .trail-left ∙ sym (q .trail-left) in

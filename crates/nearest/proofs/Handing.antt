@@ -19,28 +19,20 @@ use Rattle.search.proofs.PlainJoints.{answerIn}
 use Rattle.search.proofs.Plain.{answer-plain}
 use Rattle.search.proofs.Distances.{answer-near, answer-few}
 use Rattle.keys.specs.declared.distance.Place.{Place}
-use Rattle.seek.specs.declared.step.Tally.{Tally}
 use Rattle.nearest.specs.declared.ask.Nearest.{Nearest}
 use Rattle.nearest.specs.declared.ask.Nearest.the-variants.{Found, Refused as Turned}
 use Rattle.keys.specs.Places.{placeOf, Named}
 use Rattle.seek.specs.Step.{handedIn}
-use Rattle.seek.specs.Search.{Reached}
+use Rattle.seek.specs.Told.{foundIn, handedOut}
 use Rattle.nearest.specs.Answers.{Handed}
-use Rattle.nearest.specs.Promise.{nearestOf, jointsOf, foundIn}
-use Rattle.nearest.specs.Asked.{roomsOf, handedOut, Asked}
+use Rattle.nearest.specs.Promise.{nearestOf, jointsOf}
+use Rattle.nearest.specs.Asked.{roomsOf, Asked}
 use Rattle.nearest.proofs.Answering.{handed-at}
 use Rattle.seek.proofs.Going.{ready-sound}
-use Rattle.nearest.proofs.Asks.{passOf′, served-may, served-fits}
+use Rattle.seek.proofs.Telling.{handed-last, none-out}
+use Rattle.nearest.proofs.Asks.{served-may}
 
 -- ---- at the end of a list
-
--- the last n are the keys handed out, last first
-handed-last : (n : ℕ) (keys : List ℕ) → n ≤ length keys → drop (length keys - n) keys ≡ reverse (handedIn n keys)
-unfolding handedIn
-handed-last zero keys room = let none : length keys - 0 ≡ length keys = omega arith in rw none (drop-length keys)
-handed-last (suc n) keys room =
-    let at : suc (length keys - suc n) ≡ length keys - n = omega arith in
-    drop-cons keys (length keys - suc n) 0 (omega arith) ∙ rw (at, handed-last n keys (omega arith)) (sym (reverse-append (handedIn n keys) (getD keys (length keys - suc n) 0 ∷ [])))
 
 -- a list with keys handed out is as long as it was
 length-out : (found : List ℕ) (n : ℕ) → length found ≤ n → length (handedOut found n) ≡ n
@@ -55,15 +47,6 @@ handed-in-out found n room =
     let long = length-out found n room in
     let last : drop (n - length found) (zeros ++ reverse found) ≡ reverse (handedIn (length found) (zeros ++ reverse found)) = rw long at (handed-last (length found) (zeros ++ reverse found) (omega (arith, long))) in
     sym (reverse-reverse (handedIn (length found) (zeros ++ reverse found))) ∙ ap reverse (sym last ∙ drop-at zeros (reverse found) (n - length found) (length-replicate {A = ℕ} (n - length found) 0)) ∙ reverse-reverse found
-
--- nothing is handed out
-none-out : (n : ℕ) → handedOut [] n ≡ replicate n 0
-unfolding handedOut
-none-out n = let all : n - 0 ≡ n = omega arith in rw all (append-nil (replicate {A = ℕ} n 0))
-
--- the first n places are cleared
-pub front-cleared : (n : ℕ) (keys front : List ℕ) → n ≤ length keys → front ≡ replicate (length (take n keys)) 0 → front ++ drop n keys ≡ replicate n 0 ++ drop n keys
-front-cleared n keys front room e = rw (length-take-le n keys room) at (ap (λ (l : List ℕ). l ++ drop n keys) e)
 
 -- ---- of an answer
 
@@ -126,21 +109,4 @@ module _ {h : ℕ} {bytes d : List ℕ} {p : Place} {k answers : ℕ} {keys corn
         keys-left = rw e (none ∙ sym (none-out (length keys)));
         corners-left = c;
         trail-left = l ∙ left-refused _ _ (length trailList) (sym e);
-      }
-
-  -- served: the answer is handed out, and the trail is in its list
-  pub asked-found : {t : Tally} {found keys′ corners′ trail′ : List ℕ} → passOf′ h bytes d p k (roomsOf answers keys corners trailList) ≡ Served true
-      → Reached (placeOf p) h bytes k t found trail′ → length trail′ ≡ length trailList → t .opened ≤ length trailList → t .handed ≤ length found → length found ≡ length keys
-      → keys′ ≡ replicate (length found - t .handed) 0 ++ drop (length found - t .handed) found → corners′ ≡ replicate (length corners) 0
-      → Asked h bytes d p k answers keys corners trailList (Found (t .handed) (t .opened)) keys′ corners′ trail′
-  unfolding leftIn handedOut
-  asked-found {t} {found} {keys′} e s trail-long fits room long kept c =
-      let served = served-fits h bytes d p k (roomsOf answers keys corners trailList) e (omega (arith, s .opened)) in
-      let out : keys′ ≡ replicate (length keys - length (answerKeys (placeOf p) h bytes k)) 0 ++ reverse (answerKeys (placeOf p) h bytes k) =
-      kept ∙ rw (handed-last (t .handed) found room, s .answer, long, s .handed) in
-      record {
-        number = rw (served, s .handed, s .opened) refl;
-        keys-left = rw served out;
-        corners-left = c;
-        trail-left = rw (served, ← trail-long) (s .in-trail);
       }

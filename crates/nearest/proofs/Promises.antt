@@ -1,8 +1,7 @@
--- What is said of a question beside its promise: what is pending has room, no cell is too far off, and entries come in the order of their keys.
-use Prim.Native.Nat.{ℕ, _+_, _*_, _≤_, _<_, max}
+-- What is said of a question beside its promise: no cell is too far off, and entries come in the order of their keys.
+use Prim.Native.Nat.{ℕ, _*_, _≤_, _<_}
 use mathlib.Core.Logic.{_↔_}
 use mathlib.Core.Path.{_≡_}
-use mathlib.Core.List.{List}
 use lib.IntN.{natAbs}
 use Rattle.board.specs.Limits.{maxPlace, maxSide}
 use Rattle.board.specs.Levels.{Box}
@@ -14,13 +13,6 @@ use Rattle.search.proofs.Keys.{Fits, Earlier, earlier-less, less-earlier, same-
 use Rattle.search.proofs.Near.{near-quarter}
 use Rattle.search.proofs.Distances.{maxDistance, near-most}
 use Rattle.search.proofs.PlainDistances.{distance-plain}
-use Rattle.seek.specs.declared.step.Tally.{Tally}
-use Rattle.seek.specs.Step.{Searching}
-use Rattle.seek.proofs.Steps.{pending-within}
-
--- at each step of a search, what is pending and what is handed out are never more than the joints, and one on an empty board
-pub pending-has-room : {p : Place} {bytes d : List ℕ} {t : Tally} {keys corners : List ℕ} (s : Searching p bytes d t keys corners) → t .pending + t .handed ≤ max 1 (s .joints)
-pending-has-room s = pending-within s
 
 -- a quarter is not nearer than its box
 pub quarter-no-nearer : (p : Place) (s : ℕ) {q b : Box} → Within 2 q b → near p (2 * s) b ≤ near p s q

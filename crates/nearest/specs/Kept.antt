@@ -10,8 +10,9 @@ use Rattle.keys.specs.declared.distance.Place.{Place}
 use Rattle.nearest.specs.declared.answer.Answer.{Answer}
 use Rattle.nearest.specs.declared.ask.Nearest.{Nearest}
 use Rattle.keys.specs.Places.{placeOf}
+use Rattle.seek.specs.Told.{foundIn}
 use Rattle.nearest.specs.Answers.{filled}
-use Rattle.nearest.specs.Promise.{Rooms, nearestOf, numbersOf, foundIn}
+use Rattle.nearest.specs.Promise.{Rooms, nearestOf, numbersOf}
 
 -- the place that a row and a column name
 abbrev pub placeAt : ℤ → ℤ → Place

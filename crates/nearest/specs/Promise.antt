@@ -50,11 +50,6 @@ nearestOf h bytes d p k r =
     then 11 unless leb (length (trail (placeOf p) h bytes k)) (r .trail)
     then Served (length (answerKeys (placeOf p) h bytes k) ∷ length (trail (placeOf p) h bytes k) ∷ [])
 
--- what was found: nothing after a refusal
-abbrev pub foundIn : Answer (List ℕ) → List ℕ → List ℕ
-foundIn (Served x) found = found
-foundIn (Refused n) found = []
-
 -- the paper's number and values for each case of the code's answers
 abbrev pub numbersOf : Nearest → Answer (List ℕ)
 numbersOf (Found joints boxes) = Served (joints ∷ boxes ∷ [])

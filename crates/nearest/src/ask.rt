@@ -1,15 +1,14 @@
 // A question is asked: tested, searched, and its number lists cleared but for the keys of the joints found, which are left for the answer list.
 ghost use mathlib.Core.Path.{_≡_};
-ghost use mathlib.Core.List.{_++_};
-ghost use Prim.Native.Nat.{_-_, _≤_};
-ghost use lib.ListN.{length, drop, replicate};
+ghost use Rattle.seek.specs.Told.{soughtOf};
 ghost use Rattle.nearest.specs.Asked.{Asked};
-ghost use Rattle.nearest.specs.Promise.{jointsOf};
+ghost use Rattle.nearest.specs.Promise.{jointsOf, numbersOf};
 use crate::gate::Gate;
 use crate::gate::may_ask;
 use keys::distance::Place;
 use refusal::Refusal;
-use seek::find::find;
+use seek::answered::Sought;
+use seek::answered::answered;
 
 // The answer to a question: the joints found and the boxes opened, or a refusal.
 pub enum Nearest {
@@ -27,13 +26,14 @@ pub(crate) fn joints_of(r: Nearest) -> usize
     }
 }
 
-// All places but the last n are cleared.
-fn clear_before(keys: &mut [u64], n: usize)
-    requires { ⌜ n ≤ length (now keys) ⌝ }
-    ensures { λ _. ⌜ now (keys .exit) ≡ replicate (length (now (keys .entry)) - n) 0 ++ drop (length (now (keys .entry)) - n) (now (keys .entry)) ⌝ }
+// What a search found, as an answer: 11 where its trail has no room.
+pub(crate) fn answer_from(s: Sought) -> Nearest
+    ensures { λ r. ⌜ numbersOf r ≡ soughtOf s ⌝ }
 {
-    let free = keys.len() - n;
-    lent::clear_longs(&mut keys[..free]);
+    match s {
+        Sought::Found { joints, boxes } => Nearest::Found { joints, boxes },
+        Sought::Short => Nearest::Refused(Refusal::TrailRoom),
+    }
 }
 
 // The question without its answer list, of which it takes the room alone.
@@ -66,16 +66,6 @@ pub fn asked(
         lent::clear_words(trail);
         return Nearest::Refused(refusal);
     }
-    let t = find(p, height, bytes, directory, k, keys, corners, trail);
-    lent::clear_words(corners);
-    if trail.len() < t.opened as usize {
-        lent::clear_longs(keys);
-        lent::clear_words(trail);
-        return Nearest::Refused(Refusal::TrailRoom);
-    }
-    clear_before(keys, t.handed as usize);
-    Nearest::Found {
-        joints: t.handed,
-        boxes: t.opened,
-    }
+    let s = answered(height, bytes, directory, p, k, keys, corners, trail);
+    answer_from(s)
 }

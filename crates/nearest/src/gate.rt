@@ -21,7 +21,7 @@ pub(crate) enum Gate {
 }
 
 // The places that each work list must have: as many as there are joints, at least 1.
-fn work_for(joints: u32) -> usize
+pub(crate) fn work_for(joints: u32) -> usize
     ensures { λ r. ⌜ r ≡ max 1 joints ⌝ }
 {
     if joints < 1 {

@@ -9,3 +9,6 @@ pub mod Steps
 pub mod Going
 pub mod Beginning
 pub mod Local
+pub mod Promises
+pub mod Telling
+pub mod Determined

@@ -3,3 +3,4 @@ pub mod Pairs
 pub mod Opening
 pub mod Step
 pub mod Search
+pub mod Told

@@ -51,7 +51,7 @@ fn seek(
 }
 
 // The search of a board that may be asked: the keys of the joints found stand at the end of the keys, the trail in its list.
-pub fn find(
+pub(crate) fn find(
     p: Place,
     height: u32,
     bytes: &[u8],

@@ -1,6 +1,7 @@
 // The search of a question.
-pub mod find;
+pub mod answered;
+mod find;
 mod heap;
 mod open;
 mod pending;
-pub mod step;
+mod step;

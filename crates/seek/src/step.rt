@@ -18,7 +18,7 @@ use keys::distance::Place;
 use keys::entry;
 
 // Kept through a question and changed as it goes: the boxes opened, the entries pending, the joints handed out.
-pub struct Tally {
+pub(crate) struct Tally {
     pub opened: u32,
     pub pending: u32,
     pub handed: u32,

@@ -1,13 +1,13 @@
--- `nearest::ask::clear_before` meets its contract. Assumes nothing.
+-- `seek::answered::clear_before` meets its contract. Assumes nothing.
 use borrow.Author.Needs.{needs}
 use mathlib.Core.Path.{sym}
 use native.Mathlib.Omega.{arith}
 use lib.Seq.{length-take-le}
 use lib.ListN.{length}
 use Prim.Native.Nat.{_-_}
-use Rattle.nearest.proofs.Handing.{front-cleared}
-use Rattle.nearest.proofs.ask.clear_before.Statement.{statement}
-use Rattle.nearest.proofs.ask.clear_before.Tie as tie
+use Rattle.seek.proofs.Telling.{front-cleared}
+use Rattle.seek.proofs.answered.clear_before.Statement.{statement}
+use Rattle.seek.proofs.answered.clear_before.Tie as tie
 
 sub-free : tie.Need-sub-free
 sub-free c = search needs
