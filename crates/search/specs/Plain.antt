@@ -4,7 +4,7 @@ use Prim.Native.Nat.{ℕ, _+_, _*_, _-_, _^_, _≤_, _<_, min}
 use mathlib.Core.Bool.{true}
 use mathlib.Core.Path.{_≡_}
 use mathlib.Core.Logic.{_⊎_, _↔_}
-use mathlib.Core.List.{List, [], _∷_, List·Memᴰ}
+use mathlib.Core.List.{List, [], _∷_, _++_, List·Memᴰ}
 use lib.ListN.{length}
 use lib.IntN.{pos, natAbs, _-ℤ_}
 use Rattle.board.specs.Levels.{Box, joints}
@@ -29,6 +29,11 @@ abbrev pub Last : {A : Type 0} → A → List A → Type 0
 Last x [] = ⊥
 Last x (y ∷ []) = x ≡ y
 Last x (y ∷ z ∷ zs) = Last x (z ∷ zs)
+
+-- l is the beginning of m
+pub record Starts {A : Type 0} (l m : List A) : Type 0 where
+  pub rest : List A
+  pub whole : m ≡ l ++ rest
 
 -- ---- the joints
 
