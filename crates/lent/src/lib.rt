@@ -1,4 +1,6 @@
 // What is lent for writing, cleared: a call that is refused, or that finds less than there is room for, leaves zeros.
+#![tactic(auto)]
+
 ghost use Rattle.std.specs.Prelude.{◌≡◌, length, replicate};
 
 // A list of bytes, all zeros.

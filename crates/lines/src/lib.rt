@@ -1,4 +1,5 @@
 // The report of a joint sheet: its lines, as bytes in a lent buffer.
+#![tactic(auto)]
 mod question;
 mod record;
 pub mod request;

@@ -1,6 +1,7 @@
 // Questions about boards: those of the rooms of each list by hand, then the cases of the stream on standard input. One line for each:
 // number found opened, then row, column and squared distance of each joint found, then the trail; `left` and a count only where something
 // that must be zero is not.
+#![tactic(auto)]
 ghost use Rattle.std.specs.Prelude.{◌≤◌, ◌<◌, ◌^◌};
 
 use crate::answers::{ROOM, asked};

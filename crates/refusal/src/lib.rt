@@ -1,4 +1,6 @@
 // The twenty refusals of document 01, each by what it means, and its number.
+#![tactic(auto)]
+
 ghost use Rattle.std.specs.Prelude.{◌≡◌};
 ghost use Rattle.refusal.specs.Numbers.{number_of};
 

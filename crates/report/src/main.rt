@@ -1,4 +1,5 @@
 // The report of the joint sheet on standard input, on standard output.
+#![tactic(auto)]
 ghost use Rattle.std.specs.Prelude.{◌≡◌, ◌≤◌, length};
 ghost use Rattle.board.specs.Limits.{max_joints};
 ghost use Rattle.lines.specs.Report.{room, max_trail};

@@ -1,4 +1,5 @@
 // The search of a question.
+#![tactic(auto)]
 pub mod answered;
 mod find;
 mod heap;
