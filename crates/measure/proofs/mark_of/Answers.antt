@@ -9,8 +9,7 @@ use mir.Facts.{to_z-of_z}
 use borrow.Author.Tests.{ltb-true}
 use Rattle.measure.specs.Measure.{plus, minus}
 use Rattle.measure.specs.Parts.{mark_of}
-use Rattle.measure.proofs.mark_of.Statement.{statement}
-use Rattle.measure.proofs.mark_of.Tie as tie
+use Rattle.measure.proofs.mark_of.Goals as goal
 
 below : (z : ℤ) → lt_z z (pos 0) ≡ true → minus ≡ mark_of z
 unfolding mark_of
@@ -22,11 +21,8 @@ unfolding mark_of
 not-below (pos n) h = refl
 not-below (negsuc n) h = let x : ◌≡◌ {A = ℕ} 0 1 = cc in absurd (omega arith)
 
-returns : tie.Need-returns
-returns c = below c.before.args.z (rw (to_z-of_z c.before.ranges.z) at c.if1.true)
+pub returns-then-z-lt0 : goal.returns-then-z-lt0
+returns-then-z-lt0 c = below c.args.z (rw (to_z-of_z c.ranges.z) at c.if-z-lt0.true)
 
-returns-2 : tie.Need-returns-2
-returns-2 c = not-below c.before.args.z (rw (to_z-of_z c.before.ranges.z) at c.if1.false)
-
-pub mark-of-spec : {M : Type 1} → statement M
-mark-of-spec = tie.close (tie.spec returns returns-2)
+pub returns : goal.returns
+returns c = not-below c.args.z (rw (to_z-of_z c.ranges.z) at c.if-z-lt0.false)

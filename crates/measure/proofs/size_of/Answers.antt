@@ -10,8 +10,7 @@ use mir.Syntax.{w32}
 use mir.Val.{SFits, to_z, of_z}
 use mir.Facts.{to_z-of_z}
 use borrow.Author.Tests.{ltb-true, lt-ltb}
-use Rattle.measure.proofs.size_of.Statement.{statement}
-use Rattle.measure.proofs.size_of.Tie as tie
+use Rattle.measure.proofs.size_of.Goals as goal
 
 -- one more than a number below -1
 one_more : (n : ℕ) → negsuc (suc n) +ℤ pos 1 ≡ negsuc n
@@ -60,35 +59,32 @@ way z h taken =
       size = size_below z neg;
     }
 
-add-result : tie.Need-overflow-add-result
-add-result c = let w = way c.before.args.z c.before.ranges.z c.if1.true in rw w.same w.fits
+pub overflow_add-result : goal.overflow_add-result
+overflow_add-result c = let w = way c.args.z c.ranges.z c.if-z-lt0.true in rw w.same w.fits
 
-sub-result : tie.Need-overflow-sub-result
-sub-result c =
-    let w = way c.before.args.z c.before.ranges.z c.if1.true in rw (w.same, w.up, w.over) (record { sfits = omega (arith, c.before.ranges.z) })
+pub overflow_sub-result : goal.overflow_sub-result
+overflow_sub-result c =
+    let w = way c.args.z c.ranges.z c.if-z-lt0.true in rw (w.same, w.up, w.over) (record { sfits = omega (arith, c.ranges.z) })
 
-cast-result : tie.Need-overflow-cast-result
-cast-result c =
-    let w = way c.before.args.z c.before.ranges.z c.if1.true in
-    rw (w.same, w.up, w.over, w.down) (tt, record { fits = omega (arith, c.before.ranges.z) })
+pub overflow_cast-result : goal.overflow_cast-result
+overflow_cast-result c =
+    let w = way c.args.z c.ranges.z c.if-z-lt0.true in
+    rw (w.same, w.up, w.over, w.down) (tt, record { fits = omega (arith, c.ranges.z) })
 
-add-result-2 : tie.Need-overflow-add-result-2
-add-result-2 c =
-    let w = way c.before.args.z c.before.ranges.z c.if1.true in
-    rw (w.same, w.up, w.over, w.down) (record { fits = omega (arith, c.before.ranges.z) })
+pub overflow_add-result-then-z-lt0 : goal.overflow_add-result-then-z-lt0
+overflow_add-result-then-z-lt0 c =
+    let w = way c.args.z c.ranges.z c.if-z-lt0.true in
+    rw (w.same, w.up, w.over, w.down) (record { fits = omega (arith, c.ranges.z) })
 
-returns : tie.Need-returns
-returns c = let w = way c.before.args.z c.before.ranges.z c.if1.true in rw (w.same, w.up, w.over, w.down) w.size
+pub returns-then-z-lt0 : goal.returns-then-z-lt0
+returns-then-z-lt0 c = let w = way c.args.z c.ranges.z c.if-z-lt0.true in rw (w.same, w.up, w.over, w.down) w.size
 
-cast-result-2 : tie.Need-overflow-cast-result-2
-cast-result-2 c =
-    let z = c.before.args.z in
-    let same = to_z-of_z c.before.ranges.z in
-    let plain = not-below z (rw same at c.if1.false) in
-    rw same (plain.0, record { fits = omega (arith, c.before.ranges.z, plain.1) })
+pub overflow_cast-result-2 : goal.overflow_cast-result-2
+overflow_cast-result-2 c =
+    let z = c.args.z in
+    let same = to_z-of_z c.ranges.z in
+    let plain = not-below z (rw same at c.if-z-lt0.false) in
+    rw same (plain.0, record { fits = omega (arith, c.ranges.z, plain.1) })
 
-returns-2 : tie.Need-returns-2
-returns-2 c = ap nat_abs (to_z-of_z c.before.ranges.z)
-
-pub size-of-spec : {M : Type 1} → statement M
-size-of-spec = tie.close (tie.spec add-result sub-result cast-result add-result-2 returns cast-result-2 returns-2)
+pub returns : goal.returns
+returns c = ap nat_abs (to_z-of_z c.ranges.z)
