@@ -12,14 +12,14 @@ use bitmap::{GroupNo, group_at, ones_of, word_at};
 use refusal::Refusal;
 
 // What the check says: the joints and the boxes of a valid bitmap, or why it is refused.
-#[derive(Drop)]
+#[derive(Clone, Copy)]
 pub enum Checked {
     Board { joints: u32, boxes: u32 },
     Refused(Refusal),
 }
 
 // What is wrong with a group, if anything is.
-#[derive(Drop)]
+#[derive(Clone, Copy)]
 enum Fault {
     Nothing,
     Found(Refusal),

@@ -9,7 +9,7 @@ use bitmap::{GroupNo, bit_at, child_of};
 use refusal::Refusal;
 
 // What membership says.
-#[derive(Drop)]
+#[derive(Clone, Copy)]
 pub enum Membership {
     Stored,
     Absent,

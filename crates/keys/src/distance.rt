@@ -10,14 +10,14 @@ ghost use Rattle.keys.specs.Places.{in_range};
 const MAX_PLACE: i32 = 1999;
 
 // The place that a question names; it may lie off the board.
-#[derive(Drop)]
+#[derive(Clone, Copy)]
 pub struct Place {
     pub row: i32,
     pub column: i32,
 }
 
 // A squared distance, which stands for no other count: outside this file it is made by `near` and `of_key`, and read by `squared` and `in_key`.
-#[derive(Drop)]
+#[derive(Clone, Copy)]
 pub struct SqDist(u32);
 
 // The number that an answer's record shows.

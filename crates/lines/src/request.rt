@@ -14,7 +14,7 @@ use records::record::{Record, Recorded, record_at};
 use text::line::put_end;
 
 // How many bytes of lines there are, and the offset of the next record.
-#[derive(Drop)]
+#[derive(Clone, Copy)]
 pub struct Chunk {
     pub length: usize,
     pub next: usize,

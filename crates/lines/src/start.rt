@@ -8,7 +8,7 @@ use sheet::Sheeted;
 use text::line::{put_board, put_refused};
 
 // How many bytes the first line has; and of a board the height, the bitmap's length, and the offset of the first record after the joints.
-#[derive(Drop)]
+#[derive(Clone, Copy)]
 pub enum Begun {
     Board {
         height: u32,

@@ -7,7 +7,7 @@ ghost use Rattle.nearest.specs.Answers.{zero_answer, answer_of, filled, Handed};
 use keys::{distance, entry};
 
 // A joint of an answer.
-#[derive(Drop)]
+#[derive(Clone, Copy)]
 pub struct Answer {
     pub row: u32,
     pub column: u32,

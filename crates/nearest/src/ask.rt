@@ -10,7 +10,7 @@ use refusal::Refusal;
 use seek::answered::{Sought, answered};
 
 // The answer to a question: the joints found and the boxes opened, or a refusal.
-#[derive(Drop)]
+#[derive(Clone, Copy)]
 pub enum Nearest {
     Found { joints: u32, boxes: u32 },
     Refused(Refusal),

@@ -13,7 +13,7 @@ use refusal::Refusal;
 // The most joints that a question may ask for.
 const MAX_WANTED: u32 = 255;
 
-#[derive(Drop)]
+#[derive(Clone, Copy)]
 pub(crate) enum Gate {
     Open,
     Shut(Refusal),

@@ -5,7 +5,7 @@ ghost use Rattle.records.specs.Kinds.{kind_of, known_of, is_board, is_joint, in_
 // The bytes of a joint record's body.
 pub const JOINT_BODY: usize = 10;
 
-#[derive(Drop)]
+#[derive(Clone, Copy)]
 pub enum Kind {
     Board,
     Joint,
@@ -15,7 +15,7 @@ pub enum Kind {
 }
 
 // How far a sheet has come: nothing yet; the board and joints; a question or a window.
-#[derive(Drop)]
+#[derive(Clone, Copy)]
 pub enum Stage {
     Start,
     Joints,
@@ -23,7 +23,7 @@ pub enum Stage {
 }
 
 // What a byte of kind says: the kind and the length of its body, or that there is no such kind.
-#[derive(Drop)]
+#[derive(Clone, Copy)]
 pub(crate) enum Known {
     Body { kind: Kind, length: usize },
     Nothing,

@@ -10,7 +10,7 @@ use crate::kind::{Kind, Known, Stage, in_place, kind_of};
 use measure::{Marked, Reading};
 use refusal::Refusal;
 
-#[derive(Drop)]
+#[derive(Clone, Copy)]
 pub enum Record {
     Board {
         height: u32,
@@ -34,21 +34,21 @@ pub enum Record {
 }
 
 // What a body says.
-#[derive(Drop)]
+#[derive(Clone, Copy)]
 pub(crate) enum Said {
     Record(Record),
     Refused(Refusal),
 }
 
 // Two measures of a body.
-#[derive(Drop)]
+#[derive(Clone, Copy)]
 pub(crate) enum Pair {
     Measures { first: u32, second: u32 },
     Refused(Refusal),
 }
 
 // A record and the offset of the next.
-#[derive(Drop)]
+#[derive(Clone, Copy)]
 pub enum Recorded {
     Record { record: Record, next: usize },
     Refused(Refusal),

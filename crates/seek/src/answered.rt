@@ -6,7 +6,7 @@ use crate::find::find;
 use keys::distance::Place;
 
 // What a search found: the joints and the boxes opened; or its trail is longer than the list for it.
-#[derive(Drop)]
+#[derive(Clone, Copy)]
 pub enum Sought {
     Found { joints: u32, boxes: u32 },
     Short,

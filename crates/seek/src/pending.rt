@@ -6,7 +6,7 @@ ghost use Rattle.seek.specs.Pending.{Taken, Added};
 use crate::heap;
 
 // An entry as the work lists hold it: its key, and of a box its levels and its corner.
-#[derive(Drop)]
+#[derive(Clone, Copy)]
 pub(crate) struct Entry {
     pub key: u64,
     pub corner: u32,

@@ -17,7 +17,7 @@ use keys::distance::Place;
 use keys::entry;
 
 // Kept through a question and changed as it goes: the boxes opened, the entries pending, the joints handed out.
-#[derive(Drop)]
+#[derive(Clone, Copy)]
 pub(crate) struct Tally {
     pub opened: u32,
     pub pending: u32,

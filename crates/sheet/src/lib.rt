@@ -25,7 +25,7 @@ pub const MAX_RECORDS: usize = 5957;
 
 // What reading a sheet answers: of its board the height, the distinct joints, the boxes, the bitmap's length in bytes, and the
 // offset of the first record after the joints; or why and where the sheet is refused.
-#[derive(Drop)]
+#[derive(Clone, Copy)]
 pub enum Sheeted {
     Board {
         height: u32,

@@ -9,14 +9,14 @@ use records::record::{Record, Recorded, record_at};
 use refusal::Refusal;
 
 // What a scan says: the height and the number of joint records, or why and where the sheet is refused.
-#[derive(Drop)]
+#[derive(Clone, Copy)]
 pub(crate) enum Scanned {
     Sheet { height: u32, joints: usize },
     Refused { refusal: Refusal, offset: usize },
 }
 
 // How far a sheet is read: the offset of the next record, and what those before it give.
-#[derive(Drop)]
+#[derive(Clone, Copy)]
 pub(crate) struct Place {
     pub at: usize,
     pub stage: Stage,
@@ -25,7 +25,7 @@ pub(crate) struct Place {
 }
 
 // After one record: it goes on at a place, or this is the answer.
-#[derive(Drop)]
+#[derive(Clone, Copy)]
 pub(crate) enum Going {
     On(Place),
     Off(Scanned),

@@ -18,28 +18,28 @@ use lent::clear_words;
 use refusal::Refusal;
 
 // What a window answers: how many cells are inside, or why it is refused.
-#[derive(Drop)]
+#[derive(Clone, Copy)]
 pub enum Windowed {
     Cells(u32),
     Refused(Refusal),
 }
 
 // Rows, or columns, from one up to another that is no longer among them.
-#[derive(Drop)]
+#[derive(Clone, Copy)]
 struct Span {
     from: u32,
     past: u32,
 }
 
 // The cells of a span of rows and a span of columns.
-#[derive(Drop)]
+#[derive(Clone, Copy)]
 struct Pane {
     rows: Span,
     columns: Span,
 }
 
 // A box by the levels left under it, its group, and its row and column among the boxes of its level; with no level left it is a cell.
-#[derive(Drop)]
+#[derive(Clone, Copy)]
 struct Spot {
     left: u32,
     group: GroupNo,
