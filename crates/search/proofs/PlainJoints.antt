@@ -66,7 +66,7 @@ keys_before p {b} {c} s t less = go (less_earlier (near p 1 b) (near p 1 c) (rec
     go : Earlier (near p 1 b) 1 (cell_id b) (near p 1 c) 1 (cell_id c) → Before (joint_at p b) (joint_at p c)
     go (Earlier.by_distance d) = Before.by_distance (rw (distance_plain p b, distance_plain p c) at d)
     go (Earlier.by_kind e k) = absurd (omega arith)
-    go (Earlier.by_id e k i) = ⊎_elim (λ r. Before.by_column (same e) r (omega arith)) (λ r. Before.by_Row (same e) r) (eq-or-lt_of_le {n = b.row} {m = c.row} (omega arith))
+    go (Earlier.by_id e k i) = ⊎_elim (λ r. Before.by_column (same e) r (omega arith)) (λ r. Before.by_row (same e) r) (eq-or-lt_of_le {n = b.row} {m = c.row} (omega arith))
 
 -- a cell that is one of a list is among it
 pub member_among : {b : Box} {l : List Box} → b ∈ l → among b.row b.col l ≡ true
@@ -159,11 +159,11 @@ module _ (p : Place) (h : ℕ) (bytes : List ℕ) (low : h ≤ 12) where
 -- no joint comes before another and after it
 pub before_one_way : (f g : Joint) → Before f g → Before g f → ⊥
 before_one_way f g (Before.by_distance d) (Before.by_distance e) = omega arith
-before_one_way f g (Before.by_distance d) (Before.by_Row e r) = omega arith
+before_one_way f g (Before.by_distance d) (Before.by_row e r) = omega arith
 before_one_way f g (Before.by_distance d) (Before.by_column e r c) = omega arith
-before_one_way f g (Before.by_Row d r) (Before.by_distance e) = omega arith
-before_one_way f g (Before.by_Row d r) (Before.by_Row e q) = omega arith
-before_one_way f g (Before.by_Row d r) (Before.by_column e q c) = omega arith
+before_one_way f g (Before.by_row d r) (Before.by_distance e) = omega arith
+before_one_way f g (Before.by_row d r) (Before.by_row e q) = omega arith
+before_one_way f g (Before.by_row d r) (Before.by_column e q c) = omega arith
 before_one_way f g (Before.by_column d r c) (Before.by_distance e) = omega arith
-before_one_way f g (Before.by_column d r c) (Before.by_Row e q) = omega arith
+before_one_way f g (Before.by_column d r c) (Before.by_row e q) = omega arith
 before_one_way f g (Before.by_column d r c) (Before.by_column e q b) = omega arith

@@ -21,7 +21,7 @@ use Rattle.board.specs.Levels.{Box, root, joints, groups}
 use Rattle.board.specs.Under.{Stands}
 use Rattle.board.proofs.Levels.{groups_suc, groups_mono, groups_zero}
 use Rattle.board.proofs.Rank.{stands_at}
-use Rattle.search.specs.Near.{Place, near}
+use Rattle.search.specs.Near.{Place}
 use Rattle.search.specs.Keys.{box_key, distance_of, kind_of, id_of}
 use Rattle.search.specs.Question.{level_keys, box_keys, answer_keys, last, reached, trail}
 use Rattle.search.specs.Plain.{Last, NearDistance, Sooner, Reached, Trail}
