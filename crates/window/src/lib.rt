@@ -1,5 +1,6 @@
 // Windows: the stored cells inside one, listed box by box. Inside, spans are half-open; the entry turns the closed ends at its door.
 #![tactic(auto)]
+
 ghost use Rattle.std.specs.Prelude.{◌≡◌, ◌+◌, ◌*◌, ◌-◌, ◌/◌, ◌%◌, ◌^◌, ◌<◌, ◌≤◌, length, set, replicate};
 ghost use Rattle.board.specs.Limits.{max_height};
 ghost use Rattle.board.specs.Under.{if_one};
