@@ -4,13 +4,11 @@ use mathlib.Core.Path.{◌≡◌, ap, ◌∙◌}
 use native.Mathlib.Nat.{mul-le-mul}
 use native.Mathlib.Omega.{arith}
 use lib.IntN.{ℤ, nat_abs}
-use borrow.Author.Rules.{rules}
 use Rattle.signed.proofs.Signed.{back}
 use Rattle.board.specs.Limits.{max_place, max_side}
 use Rattle.search.specs.Near.{max_gap, gap, signed_gap, square}
 use Rattle.search.proofs.Near.{gap_signed, gap_at_most}
-use Rattle.keys.proofs.distance.along.Statement.{statement}
-use Rattle.keys.proofs.distance.along.Tie as tie
+use Rattle.keys.proofs.distance.along.Goals as goal
 
 -- the size of what `gap` gave, and its range
 record Sized (z place : ℤ) (lo hi : ℕ) : Type 0 where
@@ -22,25 +20,16 @@ sized {z} {place} {lo} {hi} e h l m =
     let same : nat_abs z ≡ gap place lo hi = ap nat_abs e ∙ gap_signed place lo hi l in
     record { is = same; small = omega (arith, gap_at_most place lo hi l h m) }
 
-last-of-requires : tie.Need-last-of-requires
-last-of-requires c κs = search rules
-
-gap-requires : tie.Need-gap-requires
-gap-requires c κs = search rules
-
-square-requires : tie.Need-square-requires
-square-requires c κs =
-    let g = c.before.before.args in
+pub square-requires : goal.square-requires
+square-requires c =
+    let g = c.args in
     let z = sized (rw (back g.place (omega arith)) at c.gap.ensures) (omega arith) (omega arith) (omega arith) in
     rw (back c.gap.result (omega arith)) z.small
 
-returns : tie.Need-returns
+pub returns : goal.returns
 unfolding square
 returns c =
-    let g = c.before.before.before.args in
-    let z = sized (rw (back g.place (omega arith)) at c.before.gap.ensures) (omega arith) (omega arith) (omega arith) in
-    let e : c.square.result ≡ square (nat_abs c.before.gap.result) = rw (back c.before.gap.result (omega arith)) at c.square.ensures in
-    (e ∙ ap square (rw c.before.before.last_of.ensures at z.is), rw e (mul-le-mul z.small z.small))
-
-pub along-spec : {M : Type 1} → statement M
-along-spec = tie.close (tie.spec last-of-requires gap-requires square-requires returns)
+    let g = c.args in
+    let z = sized (rw (back g.place (omega arith)) at c.gap.ensures) (omega arith) (omega arith) (omega arith) in
+    let e : c.square.result ≡ square (nat_abs c.gap.result) = rw (back c.gap.result (omega arith)) at c.square.ensures in
+    (e ∙ ap square (rw c.last_of.ensures at z.is), rw e (mul-le-mul z.small z.small))

@@ -7,11 +7,9 @@ use lib.Dec.{leb}
 use lib.IntN.{ℤ, pos, negsuc, nat_abs}
 use lib.Signed.{lt_z, le_z}
 use mir.Facts.{to_z-of_z}
-use borrow.Author.Rules.{rules}
 use borrow.Author.Tests.{ltb-true, ltb-false, le-leb, lt-leb}
 use Rattle.board.specs.Limits.{max_place}
-use Rattle.keys.proofs.distance.in_range.Statement.{statement}
-use Rattle.keys.proofs.distance.in_range.Tie as tie
+use Rattle.keys.proofs.distance.in_range.Goals as goal
 
 -- below the lowest
 below : (z : ℤ) → lt_z z (negsuc 1998) ≡ true → false ≡ leb (nat_abs z) max_place
@@ -23,14 +21,8 @@ above : (z : ℤ) → lt_z z (negsuc 1998) ≡ false → le_z z (pos 1999) ≡ l
 above (pos n) e = refl
 above (negsuc n) e = sym (le-leb (nat_abs (negsuc n)) max_place (omega (arith, ltb-false 1998 n e)))
 
-sub-if1 : tie.Need-overflow-sub-if1
-sub-if1 c = search rules
+pub returns-then-z : goal.returns-then-z
+returns-then-z c = let same = to_z-of_z c.ranges.z in below c.args.z (rw same at c.if-z.true)
 
-returns : tie.Need-returns
-returns c = let same = to_z-of_z c.before.ranges.z in below c.before.args.z (rw same at c.if1.true)
-
-returns-2 : tie.Need-returns-2
-returns-2 c = let same = to_z-of_z c.before.ranges.z in rw same (above c.before.args.z (rw same at c.if1.false))
-
-pub in-range-spec : {M : Type 1} → statement M
-in-range-spec = tie.close (tie.spec sub-if1 returns returns-2)
+pub returns : goal.returns
+returns c = let same = to_z-of_z c.ranges.z in rw same (above c.args.z (rw same at c.if-z.false))
