@@ -7,7 +7,7 @@ use native.Mathlib.Omega.{arith}
 use native.Mathlib.Nat.{add-zero, sub-zero}
 use lib.ListN.{length, replicate, length-append, length-map, length-replicate}
 use Rattle.order.specs.Order.{keep}
-use Rattle.order.specs.Bag.{same, count}
+use Rattle.order.specs.Bag.{count}
 use Rattle.order.proofs.Cases.{same_self}
 use Rattle.order.proofs.Total.{total, total_one, adds, length_adds}
 use Rattle.order.proofs.Sorted.{total_bag}

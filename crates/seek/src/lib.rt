@@ -1,5 +1,6 @@
 // The search of a question.
 #![tactic(auto)]
+
 pub mod answered;
 mod find;
 mod heap;

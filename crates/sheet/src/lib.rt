@@ -1,5 +1,6 @@
 // Joint sheets: records one after the other, and the board that they give.
 #![tactic(auto)]
+
 ghost use Rattle.std.specs.Prelude.{◌≡◌, List, map, ◌≤◌, length};
 ghost use Rattle.board.specs.Code.{code_of};
 ghost use Rattle.build.specs.Build.{bitmap_of};
