@@ -1,12 +1,11 @@
 -- The keys of the joints found: how a search leaves them at the end of the keys, and what a question that is asked hands out.
-use Prim.Native.Nat.{ℕ, zero, suc, ◌-◌, ◌≤◌}
-use mathlib.Core.Bool.{true}
+use Prim.Native.Nat.{ℕ, suc, ◌-◌, ◌≤◌}
 use mathlib.Core.Path.{◌≡◌, refl, sym, ap, ◌∙◌}
-use mathlib.Core.List.{List, [], ◌∷◌, ◌++◌, append-nil, reverse, reverse-append, reverse-reverse}
+use mathlib.Core.List.{List, ◌++◌, reverse, reverse-reverse}
 use native.Mathlib.Omega.{arith}
-use lib.ListN.{length, get_or, take, drop, replicate, length-append, length-replicate, length-reverse, length-map}
-use lib.Seq.{length-take-le, drop-cons, drop-length, drop_at}
-use Rattle.refusal.specs.Answer.{Served, Refused, left_in}
+use lib.ListN.{length, get_or, drop, replicate, length-append, length-replicate, length-reverse, length-map}
+use lib.Seq.{drop_at}
+use Rattle.refusal.specs.Answer.{Refused}
 use Rattle.refusal.specs.Numbers.{number_of}
 use Rattle.refusal.specs.declared.Refusal.{Refusal}
 use Rattle.refusal.proofs.Answers.{left_refused}

@@ -1,16 +1,14 @@
 -- Of two served questions of one board and one place: the shorter answer is the beginning of the longer, and the shorter trail of the longer trail.
 use Prim.Native.Nat.{ℕ, ◌≤◌}
 use mathlib.Core.Path.{◌≡◌, sym, ap, ◌∙◌}
-use mathlib.Core.List.{List, [], ◌∷◌, map}
-use lib.ListN.{length, take, length-map}
+use mathlib.Core.List.{List, map}
+use lib.ListN.{take, length-map}
 use lib.Seq.{take_at}
 use lib.IntN.{ℤ}
-use Rattle.refusal.specs.Answer.{Served, left_in}
-use Rattle.search.specs.Near as near
+use Rattle.refusal.specs.Answer.{left_in}
 use Rattle.search.specs.Question as question
 use Rattle.search.specs.Plain.{Starts}
 use Rattle.search.proofs.Longer.{starts_map, answer_starts, trail_starts}
-use Rattle.nearest.specs.declared.answer.Answer.{Answer}
 use Rattle.nearest.specs.declared.ask.Nearest.TheVariants.{Found}
 use Rattle.keys.specs.Places.{place_of}
 use Rattle.nearest.specs.Answers.{answer_of, filled}

@@ -1,5 +1,5 @@
 -- The answer list: one record for each joint, and records of zeros after them.
-use Rattle.std.specs.Prelude.{ℕ, suc, ◌-◌, ◌^◌, ◌≤◌, ◌<◌, ◌≡◌, List, ◌++◌, map, length, get_or, replicate}
+use Rattle.std.specs.Prelude.{ℕ, suc, ◌-◌, ◌^◌, ◌≤◌, ◌<◌, List, ◌++◌, map, length, get_or, replicate}
 use Rattle.search.specs.Keys.{row_of, col_of, distance_of}
 use Rattle.nearest.specs.declared.answer.Answer.{Answer}
 

@@ -1,5 +1,5 @@
 -- What a question is answered, in the paper's numbers and order, and what it leaves in the lists lent to it.
-use Rattle.std.specs.Prelude.{ℕ, max, Bool, true, ◌&&◌, List, [], ◌∷◌, ◌≡◌, length, leb}
+use Rattle.std.specs.Prelude.{ℕ, max, Bool, true, ◌&&◌, List, [], ◌∷◌, length, leb}
 use Rattle.refusal.specs.Numbers.{number_of}
 use Rattle.refusal.specs.Answer.{Answer, Served, Refused, ◌unless◌, ◌then◌}
 use Rattle.bitmap.specs.Directory.{directory_of, alike}
