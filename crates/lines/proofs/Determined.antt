@@ -1,7 +1,6 @@
 -- Each promise determines its call.
 use Prim.Native.Nat.{ℕ}
 use mathlib.Core.Path.{◌≡◌, sym, ◌∙◌}
-use mathlib.Core.List.{List}
 use native.Mathlib.Omega.{arith}
 use Rattle.promise.specs.Determines.{Determines}
 use Rattle.lines.specs.declared.start.Begun.{Begun}

@@ -1,5 +1,6 @@
 // The report of a joint sheet: its lines, as bytes in a lent buffer.
 #![tactic(auto)]
+
 mod question;
 mod record;
 pub mod request;

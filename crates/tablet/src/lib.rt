@@ -1,6 +1,7 @@
 // What the bench tablet calls, with numbers and byte strings only. Each call returns the number of refusal, 0 where it is served; the values go
 // into numbers that the caller lends, and are zero after a refusal.
 #![tactic(auto)]
+
 ghost use Rattle.std.specs.Prelude.{◌≡◌, [], ◌∷◌, pos, length};
 ghost use Rattle.refusal.specs.Answer.{left_in, number_in, value_in};
 ghost use Rattle.measure.specs.Measure.{read_of, read_marked_of};
