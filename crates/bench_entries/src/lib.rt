@@ -1,6 +1,7 @@
 // What the benchmark calls beside the tablet's entries: sorting, building from cells, the directory, and a report line by line, each passed on to the
 // library. Where an entry has a `requires`, its caller, bench/, keeps it.
 #![tactic(auto)]
+
 ghost use Rattle.std.specs.Prelude.{◌≡◌, [], ◌∷◌, ◌<◌, ◌≤◌, length, replicate};
 ghost use Rattle.refusal.specs.Answer.{left_in, number_in, value_in};
 ghost use Rattle.order.specs.Order.{sort as inOrder};

@@ -1,5 +1,6 @@
 // Document 01's examples for boards, and the edges of the check: one line for each, the call and then what it answers.
 #![tactic(auto)]
+
 use board::check::{Checked, check};
 use board::directory::make_directory;
 use board::member::{Membership, member};

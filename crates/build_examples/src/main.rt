@@ -1,6 +1,7 @@
 // Boards built from lists of cells: one line for each call, with the call, what it answers, what the check, the window of the whole board and
 // membership say of the bitmap, and what is left where zeros must be.
 #![tactic(auto)]
+
 ghost use Rattle.std.specs.Prelude.{◌≤◌, ◌<◌};
 
 use board::check::{Checked, check};

@@ -1,5 +1,6 @@
 // The measure examples of document 01, and the edges of the two forms: one line for each, the text and then the number or the refusal.
 #![tactic(auto)]
+
 use measure::{Marked, Reading, Writing};
 
 fn say_reading(reading: Reading) {

@@ -2,6 +2,7 @@
 // number found opened, then row, column and squared distance of each joint found, then the trail; `left` and a count only where something
 // that must be zero is not.
 #![tactic(auto)]
+
 ghost use Rattle.std.specs.Prelude.{◌≤◌, ◌<◌, ◌^◌};
 
 use crate::answers::{ROOM, asked};
@@ -88,7 +89,7 @@ fn say_answer(r: Nearest, numbers: &[u32], trail: &[u32]) {
 }
 
 // What a question lends.
-#[derive(Drop)]
+#[derive(Clone, Copy)]
 struct Rooms {
     answers: usize,
     keys: usize,

@@ -1,5 +1,6 @@
 // The report of the joint sheet on standard input, on standard output.
 #![tactic(auto)]
+
 ghost use Rattle.std.specs.Prelude.{◌≡◌, ◌≤◌, length};
 ghost use Rattle.board.specs.Limits.{max_joints};
 ghost use Rattle.lines.specs.Report.{room, max_trail};

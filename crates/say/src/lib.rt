@@ -1,5 +1,6 @@
 // What the example programs print with: texts, numbers and lists of them on standard output.
 #![tactic(auto)]
+
 use refusal::Refusal;
 
 const OUT: i32 = 1;

@@ -1,6 +1,7 @@
 // Sheets from a stream of cases on standard input, each with the rooms lent for it, and what reading them answers: one line for
 // each case, in the form of the second program (tests/second), so that the two can be compared.
 #![tactic(auto)]
+
 ghost use Rattle.std.specs.Prelude.{◌+◌, ◌≤◌, ◌<◌, length};
 
 use refusal::Refusal;

@@ -1,5 +1,6 @@
 // Windows on small boards: one line for each, the ends, what is answered, and what is left in the two lists.
 #![tactic(auto)]
+
 use window::{Windowed, window};
 
 fn say_windowed(answer: Windowed) {
