@@ -20,16 +20,14 @@ use build::Built;
 use lines::start::Begun;
 
 // A list in rising order, in place.
-#[unsafe(no_mangle)]
-pub extern "C" fn bench_sort(list: &mut [u32])
+pub fn bench_sort(list: &mut [u32])
     ensures { list.new ≡ inOrder list.old }
 {
     order::sort(list);
 }
 
 // Builds the bitmap of cells; the number of refusal, and 0 where it is served.
-#[unsafe(no_mangle)]
-pub extern "C" fn bench_build(
+pub fn bench_build(
     height: u32,
     rows: &[u32],
     columns: &[u32],
@@ -62,8 +60,7 @@ pub extern "C" fn bench_build(
 }
 
 // Writes the directory of a board; the number of refusal, and 0 where it is served.
-#[unsafe(no_mangle)]
-pub extern "C" fn bench_make_directory(height: u32, bytes: &[u8], directory: &mut [u16]) -> u32
+pub fn bench_make_directory(height: u32, bytes: &[u8], directory: &mut [u16]) -> u32
     ensures { (result ≡ number_in (made_of height bytes.now (length directory.old))) × (directory.new ≡ left_in (made_of height bytes.now (length directory.old)) (directory_of bytes.now) (length directory.old)) }
 {
     match board::directory::make_directory(height, bytes, directory) {
@@ -73,8 +70,7 @@ pub extern "C" fn bench_make_directory(height: u32, bytes: &[u8], directory: &mu
 }
 
 // Reads a sheet, leaves its bitmap, and puts the first line of its report; how many bytes that line has.
-#[unsafe(no_mangle)]
-pub extern "C" fn bench_first_line(
+pub fn bench_first_line(
     sheet: &[u8],
     work: &mut [u32],
     bitmap: &mut [u8],
@@ -108,8 +104,7 @@ pub extern "C" fn bench_first_line(
 }
 
 // Puts the lines of the record at an offset of a sheet, and tells the offset of the next; how many bytes the lines have.
-#[unsafe(no_mangle)]
-pub extern "C" fn bench_next_lines(
+pub fn bench_next_lines(
     height: u32,
     bytes: &[u8],
     directory: &[u16],

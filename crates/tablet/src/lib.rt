@@ -18,8 +18,7 @@ use sheet::{MAX_RECORDS, Sheeted};
 const SERVED: u32 = 0;
 
 // A measure of five bytes, as 012,5, in half millimetres.
-#[unsafe(no_mangle)]
-pub extern "C" fn joint_board_read_measure(text: &[u8], value: &mut u32) -> u32
+pub fn joint_board_read_measure(text: &[u8], value: &mut u32) -> u32
     ensures { (result ≡ number_in (read_of text.now)) × (value.new ≡ value_in 0 (read_of text.now)) }
 {
     match measure::read(text) {
@@ -35,8 +34,7 @@ pub extern "C" fn joint_board_read_measure(text: &[u8], value: &mut u32) -> u32
 }
 
 // A marked measure of six bytes, as -000,5, in half millimetres.
-#[unsafe(no_mangle)]
-pub extern "C" fn joint_board_read_marked(text: &[u8], signed: &mut i32) -> u32
+pub fn joint_board_read_marked(text: &[u8], signed: &mut i32) -> u32
     ensures { (result ≡ number_in (read_marked_of text.now)) × (signed.new ≡ value_in (pos 0) (read_marked_of text.now)) }
 {
     match measure::read_marked(text) {
@@ -52,8 +50,7 @@ pub extern "C" fn joint_board_read_marked(text: &[u8], signed: &mut i32) -> u32
 }
 
 // The check of a bitmap: its joints and its boxes.
-#[unsafe(no_mangle)]
-pub extern "C" fn joint_board_check(
+pub fn joint_board_check(
     height: u32,
     bytes: &[u8],
     joints: &mut u32,
@@ -80,8 +77,7 @@ pub extern "C" fn joint_board_check(
 
 // Builds the board of a joint sheet into the bitmap's room, with work room for the joints of the longest sheet. The offset is that of the first record after the joints, or after a refusal where
 // the sheet is wrong.
-#[unsafe(no_mangle)]
-pub extern "C" fn joint_board_build(
+pub fn joint_board_build(
     sheet: &[u8],
     bitmap: &mut [u8],
     height: &mut u32,
