@@ -7,7 +7,7 @@ use native.Mathlib.Omega.{arith}
 use native.Mathlib.Nat.{div-eq_of_lt, div-lt_iff_lt-mul, one-le-pow}
 use lib.ListN.{length}
 use lib.Dec.{ltb}
-use borrow.Author.Tests.{ltb-true, eq-eqb, ne_eqb}
+use borrow.Author.Tests.{ltb-true, lt-ltb, le-ltb, eq-eqb, ne_eqb}
 use Rattle.refusal.proofs.Tests.{both}
 use Rattle.order.specs.Order.{has}
 use Rattle.order.proofs.Cases.{ltb_cases}
@@ -35,6 +35,19 @@ quot_above h x n = ltb_cases x (2 ^ h) (λ l e. absurd (n (div-eq_of_lt l))) (λ
 pub on_board_both : (h r c : ℕ) → on_board h r c ≡ true → (r < 2 ^ h) × (c < 2 ^ h)
 unfolding on_board
 on_board_both h r c e = let k = both (ltb r (2 ^ h)) (ltb c (2 ^ h)) e in (ltb-true r (2 ^ h) k.0, ltb-true c (2 ^ h) k.1)
+
+-- a cell whose row and column are within the side is on the board, and one of which either is past it is off
+pub on_by_quotients : (h r c : ℕ) → r / 2 ^ h ≡ 0 → c / 2 ^ h ≡ 0 → true ≡ on_board h r c
+unfolding on_board
+on_by_quotients h r c row column = rw (lt-ltb r (2 ^ h) (quot_below h r row), lt-ltb c (2 ^ h) (quot_below h c column))
+
+pub off_by_row : (h r c : ℕ) → (r / 2 ^ h ≡ 0 → ⊥) → false ≡ on_board h r c
+unfolding on_board
+off_by_row h r c past = rw (le-ltb r (2 ^ h) (quot_above h r past))
+
+pub off_by_column : (h r c : ℕ) → r / 2 ^ h ≡ 0 → (c / 2 ^ h ≡ 0 → ⊥) → false ≡ on_board h r c
+unfolding on_board
+off_by_column h r c within past = rw (lt-ltb r (2 ^ h) (quot_below h r within), le-ltb c (2 ^ h) (quot_above h c past))
 
 -- a group above the last level lies within the bytes, and its number is small
 pub stands_within : (h : ℕ) (bytes directory : List ℕ) (n g : ℕ) (b : Box) → Ready h bytes directory → Stands bytes n g b → n < h

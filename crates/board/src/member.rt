@@ -17,6 +17,7 @@ pub enum Membership {
 }
 
 // Whether a cell is on the board.
+#[tactic(auto, using(crate::proofs::Down::on_by_quotients, crate::proofs::Down::off_by_row, crate::proofs::Down::off_by_column))]
 pub fn on_board(height: u32, row: u32, column: u32) -> bool
     requires { height < 32 }
     ensures { result ≡ on_board height row column }

@@ -9,8 +9,5 @@ use Rattle.seek.proofs.find.goes_on.Goals as goal
 pub returns-then-pending-eq0 : goal.returns-then-pending-eq0
 returns-then-pending-eq0 c = record { on = λ e. absurd (let z : ◌≡◌ {A = ℕ} 0 1 = cc e in omega arith); over = λ e. inl c.if-pending-eq0.true }
 
-pub returns-then-k-handed : goal.returns-then-k-handed
-returns-then-k-handed c = record { on = λ e. absurd (let z : ◌≡◌ {A = ℕ} 0 1 = cc e in omega arith); over = λ e. inr (inl c.if-k-handed.true) }
-
 pub returns : goal.returns
-returns c = record { on = λ e. (omega (arith, c.if-pending-eq0.false), omega (arith, c.if-k-handed.false), leb-true _ _ e); over = λ e. inr (inr (leb-false _ _ e)) }
+returns c = record { on = λ e. (omega arith, omega arith, leb-true _ _ e); over = λ e. inr (inr (leb-false _ _ e)) }
