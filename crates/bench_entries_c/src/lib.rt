@@ -83,5 +83,7 @@ pub extern "C" fn bench_next_lines(
     requires { OnDesk sheet.now height bytes.now directory.now rows.old columns.old keys.old corners.old trail.old × (at < length sheet.now) × (room ≤ length out.old) }
     ensures { (Chunked (report_desk bytes.now) height bytes.now sheet.now at out.old (record { length = result; next = next.new }) out.new) × (rows.new ≡ replicate (length rows.old) 0) × (columns.new ≡ replicate (length columns.old) 0) × (keys.new ≡ replicate (length keys.old) 0) × (corners.new ≡ replicate (length corners.old) 0) × (trail.new ≡ replicate (length trail.old) 0) }
 {
-    bench_entries::bench_next_lines(height, bytes, directory, sheet, at, rows, columns, keys, corners, trail, out, next)
+    bench_entries::bench_next_lines(
+        height, bytes, directory, sheet, at, rows, columns, keys, corners, trail, out, next,
+    )
 }

@@ -50,12 +50,7 @@ pub fn joint_board_read_marked(text: &[u8], signed: &mut i32) -> u32
 }
 
 // The check of a bitmap: its joints and its boxes.
-pub fn joint_board_check(
-    height: u32,
-    bytes: &[u8],
-    joints: &mut u32,
-    boxes: &mut u32,
-) -> u32
+pub fn joint_board_check(height: u32, bytes: &[u8], joints: &mut u32, boxes: &mut u32) -> u32
     ensures { (result ≡ number_in (check_of height bytes.now)) × (joints.new ∷ boxes.new ∷ [] ≡ value_in (0 ∷ 0 ∷ []) (check_of height bytes.now)) }
 {
     match board::check::check(height, bytes) {
