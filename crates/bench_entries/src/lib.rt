@@ -1,5 +1,5 @@
 // What the benchmark calls beside the tablet's entries: sorting, building from cells, the directory, and a report line by line, each passed on to the
-// library. Where an entry has a `requires`, its caller, bench/, keeps it.
+// library. Where an entry has a `requires`, its caller, bench/, keeps it. Lists and numbers are lent one by one, as C has them.
 #![tactic(auto)]
 
 ghost use Rattle.std.specs.Prelude.{◌≡◌, [], ◌∷◌, ◌<◌, ◌≤◌, length, replicate};
@@ -15,9 +15,8 @@ ghost use Rattle.lines.specs.Requests.{Chunked};
 ghost use Rattle.lines.specs.Whole.{OnDesk, report_desk};
 ghost use Rattle.bench_entries.specs.Entries.{Begun as FirstPut};
 
-use board::check::Checked;
-use build::Built;
-use lines::start::Begun;
+use board::Board;
+use lines::Lists;
 
 // A list in rising order, in place.
 pub fn bench_sort(list: &mut [u32])
@@ -40,17 +39,13 @@ pub fn bench_build(
     ensures { (result ≡ number_in (built_of height rows.now columns.now (length work.old) (length bitmap.old))) × (joints.new ∷ boxes.new ∷ size.new ∷ [] ≡ value_in (0 ∷ 0 ∷ 0 ∷ []) (built_of height rows.now columns.now (length work.old) (length bitmap.old))) × (work.new ≡ replicate (length work.old) 0) × (bitmap.new ≡ left_in (built_of height rows.now columns.now (length work.old) (length bitmap.old)) (bitmap_of height (cells_of rows.now columns.now)) (length bitmap.old)) }
 {
     match build::build(height, rows, columns, work, bitmap) {
-        Built::Board {
-            joints: j,
-            boxes: b,
-            length: l,
-        } => {
-            *joints = j;
-            *boxes = b;
-            *size = l;
+        Ok(built) => {
+            *joints = built.joints;
+            *boxes = built.boxes;
+            *size = built.length;
             0
         }
-        Built::Refused(refusal) => {
+        Err(refusal) => {
             *joints = 0;
             *boxes = 0;
             *size = 0;
@@ -64,8 +59,8 @@ pub fn bench_make_directory(height: u32, bytes: &[u8], directory: &mut [u16]) ->
     ensures { (result ≡ number_in (made_of height bytes.now (length directory.old))) × (directory.new ≡ left_in (made_of height bytes.now (length directory.old)) (directory_of bytes.now) (length directory.old)) }
 {
     match board::directory::make_directory(height, bytes, directory) {
-        Checked::Board { .. } => 0,
-        Checked::Refused(refusal) => refusal.number(),
+        Ok(_) => 0,
+        Err(refusal) => refusal.number(),
     }
 }
 
@@ -82,25 +77,20 @@ pub fn bench_first_line(
     requires { (length work.old ≡ max_records) × (length bitmap.old ≡ max_bytes) × (room ≤ length out.old) }
     ensures { FirstPut sheet.now work.old bitmap.old out.old result (height.new ∷ size.new ∷ requests.new ∷ []) work.new bitmap.new out.new }
 {
-    match lines::start::first_line(sheet, work, bitmap, out) {
-        Begun::Board {
-            height: h,
-            length: l,
-            requests: q,
-            end,
-        } => {
-            *height = h;
-            *size = l;
-            *requests = q;
-            end
+    let begun = lines::start::first_line(sheet, work, bitmap, out);
+    match begun.board {
+        Some(board) => {
+            *height = board.height;
+            *size = board.length;
+            *requests = board.requests;
         }
-        Begun::Refused { end } => {
+        None => {
             *height = 0;
             *size = 0;
             *requests = 0;
-            end
         }
     }
+    begun.end
 }
 
 // Puts the lines of the record at an offset of a sheet, and tells the offset of the next; how many bytes the lines have.
@@ -121,9 +111,19 @@ pub fn bench_next_lines(
     requires { OnDesk sheet.now height bytes.now directory.now rows.old columns.old keys.old corners.old trail.old × (at < length sheet.now) × (room ≤ length out.old) }
     ensures { (Chunked (report_desk bytes.now) height bytes.now sheet.now at out.old (record { length = result; next = next.new }) out.new) × (rows.new ≡ replicate (length rows.old) 0) × (columns.new ≡ replicate (length columns.old) 0) × (keys.new ≡ replicate (length keys.old) 0) × (corners.new ≡ replicate (length corners.old) 0) × (trail.new ≡ replicate (length trail.old) 0) }
 {
-    let chunk = lines::request::next_lines(
-        height, bytes, directory, sheet, at, rows, columns, keys, corners, trail, out,
-    );
+    let board = Board {
+        height,
+        bytes,
+        directory,
+    };
+    let mut lists = Lists {
+        rows,
+        columns,
+        keys,
+        corners,
+        trail,
+    };
+    let chunk = lines::request::next_lines(board, sheet, at, &mut lists, out);
     *next = chunk.next;
     chunk.length
 }

@@ -21,10 +21,10 @@ use Rattle.bitmap.specs.contracts.bit_at as bit-at-fn
 use Rattle.bitmap.proofs.bit_at.Reads as bit_at
 use Rattle.bitmap.specs.contracts.word_at as word-at-fn
 use Rattle.bitmap.proofs.word_at.Reads as word_at
-use Rattle.bitmap.specs.contracts.child_of as child-of-fn
-use Rattle.bitmap.proofs.child_of.Reads as child_of
-use Rattle.bitmap.specs.contracts.first_child as first-child-fn
-use Rattle.bitmap.proofs.first_child.Reads as first-child
+use Rattle.bitmap.specs.contracts.Ranked.child_of as child-of-fn
+use Rattle.bitmap.proofs.Ranked.child_of.Reads as child_of
+use Rattle.bitmap.specs.contracts.Ranked.first_child as first-child-fn
+use Rattle.bitmap.proofs.Ranked.first_child.Reads as first-child
 use Rattle.bitmap.specs.contracts.blocks_of as blocks-of-fn
 use Rattle.bitmap.proofs.blocks_of.Reads as blocks-of
 use Rattle.bitmap.specs.contracts.fill_directory as fill-directory-fn

@@ -4,14 +4,16 @@ use mathlib.Core.Path.{◌≡◌, sym}
 use mathlib.Core.List.{List, [], ◌∷◌}
 use native.Mathlib.Omega.{arith}
 use lib.ListN.{length}
+use lib.Dec.{eqb}
+use borrow.Author.Tests.{eqb-true}
 use Rattle.refusal.specs.Answer.{Answer, Served, Refused, ◌unless◌, ◌then◌}
 use Rattle.refusal.proofs.Answers.{passed, went_on, stays, goes_on}
 use Rattle.bitmap.specs.Bits.{ones_before}
-use Rattle.bitmap.specs.Directory.{directory_of, alike}
+use Rattle.bitmap.specs.Directory.{blocks, directory_of, alike}
 use Rattle.bitmap.proofs.Directory.{alike_true}
 use Rattle.board.specs.Limits.{max_height}
 use Rattle.board.specs.Check.{check_of}
-use Rattle.board.specs.Ready.{Ready, asked_of}
+use Rattle.board.specs.Ready.{Ready, asked_of, made_of}
 use Rattle.board.proofs.Valid.{Sound, served_valid}
 use Rattle.board.proofs.Bounds.{ones_at_most}
 
@@ -20,6 +22,13 @@ pub served_few : (h : ℕ) (bytes : List ℕ) (j g : ℕ) → check_of h bytes �
 served_few h bytes j g e =
     let s = served_valid h bytes j g e in
     omega (arith, ones_at_most h bytes (8 * length bytes) s.valid s.low s.few (omega arith))
+
+-- a directory is made only where there is just the room for it, and its ones fit
+pub made_served : (h : ℕ) (bytes : List ℕ) (n j g : ℕ) → made_of h bytes n ≡ Served (j ∷ g ∷ []) → (n ≡ blocks (length bytes)) × (ones_before bytes (8 * length bytes) < 2 ^ 16)
+unfolding made_of
+made_served h bytes n j g e =
+    let t = passed 6 (eqb n (blocks (length bytes))) (check_of h bytes) (went_on (check_of h bytes) _ e).2 in
+    (eqb-true n (blocks (length bytes)) t.0, served_few h bytes j g t.1)
 
 -- what is asked and served, the check serves
 pub asked_sound : (h : ℕ) (bytes d : List ℕ) (j g : ℕ) → asked_of h bytes d ≡ Served (j ∷ g ∷ []) → Sound h bytes j g

@@ -1,47 +1,45 @@
 -- Each promise determines its call.
-use Prim.Native.Nat.{ℕ}
 use mathlib.Core.Path.{◌≡◌, refl, sym, ap, ◌∙◌}
-use native.Mathlib.Omega.{arith}
 use Rattle.promise.specs.Determines.{Determines}
 use Rattle.refusal.proofs.Numbers.{same_refusal}
 use Rattle.refusal.proofs.Answers.{not_both}
-use Rattle.board.specs.declared.check.Checked.{Checked}
-use Rattle.board.specs.declared.check.Checked.TheVariants.{Board, Refused as NotChecked}
-use Rattle.board.specs.declared.member.Membership.{Membership}
-use Rattle.board.specs.declared.member.Membership.TheVariants.{Stored, Absent, Refused as NotMember}
+use Rattle.std.specs.Prelude.{Bool, Result, Ok, Err}
+use Rattle.refusal.specs.declared.Refusal.{Refusal}
+use Rattle.board.specs.declared.Counts.{Counts}
 use Rattle.board.specs.Numbers.{numbers_of}
 use Rattle.board.specs.Member.{member_numbers}
 use Rattle.board.specs.contracts.side as side-fn
 use Rattle.board.proofs.side.Reads as side
 use Rattle.board.specs.contracts.check.check as check-fn
 use Rattle.board.proofs.check.check.Reads as check
-use Rattle.board.specs.contracts.ask.ask as ask-fn
-use Rattle.board.proofs.ask.ask.Reads as ask
+use Rattle.board.specs.contracts.Board.ask as ask-fn
+use Rattle.board.proofs.Board.ask.Reads as ask
 use Rattle.board.specs.contracts.directory.make_directory as make-directory-fn
 use Rattle.board.proofs.directory.make_directory.Reads as make-directory
 use Rattle.board.specs.contracts.member.on_board as on-board-fn
 use Rattle.board.proofs.member.on_board.Reads as on_board_lem
-use Rattle.board.specs.contracts.member.member as member-fn
-use Rattle.board.proofs.member.member.Reads as member
+use Rattle.board.specs.contracts.Board.member as member-fn
+use Rattle.board.proofs.Board.member.Reads as member
 
 -- ---- answers with the same numbers are equal
 
-pub checks_alike : (r s : Checked) → numbers_of r ≡ numbers_of s → r ≡ s
-checks_alike (Board j g) (Board j' g') e = cc
-checks_alike (Board j g) (NotChecked b) e = absurd (not_both (sym e))
-checks_alike (NotChecked a) (Board j g) e = absurd (not_both e)
-checks_alike (NotChecked a) (NotChecked b) e = ap NotChecked (same_refusal a b e)
+counts_path : (r s : Counts) → r.joints ≡ s.joints → r.boxes ≡ s.boxes → r ≡ s
+counts_path r s j b = λ i. record { joints = j i; boxes = b i }
 
-pub members_alike : (r s : Membership) → member_numbers r ≡ member_numbers s → r ≡ s
-members_alike Stored Stored e = refl
-members_alike Stored Absent e = absurd (let z : ◌≡◌ {A = ℕ} 0 1 = cc in omega arith)
-members_alike Stored (NotMember b) e = absurd (not_both (sym e))
-members_alike Absent Stored e = absurd (let z : ◌≡◌ {A = ℕ} 0 1 = cc in omega arith)
-members_alike Absent Absent e = refl
-members_alike Absent (NotMember b) e = absurd (not_both (sym e))
-members_alike (NotMember a) Stored e = absurd (not_both e)
-members_alike (NotMember a) Absent e = absurd (not_both e)
-members_alike (NotMember a) (NotMember b) e = ap NotMember (same_refusal a b e)
+pub checks_alike : (r s : Result Counts Refusal) → numbers_of r ≡ numbers_of s → r ≡ s
+checks_alike (Ok r) (Ok s) e =
+    let j : r.joints ≡ s.joints = cc in
+    let b : r.boxes ≡ s.boxes = cc in
+    ap Ok (counts_path r s j b)
+checks_alike (Ok r) (Err b) e = absurd (not_both (sym e))
+checks_alike (Err a) (Ok s) e = absurd (not_both e)
+checks_alike (Err a) (Err b) e = ap Err (same_refusal a b e)
+
+pub members_alike : (r s : Result Bool Refusal) → member_numbers r ≡ member_numbers s → r ≡ s
+members_alike (Ok r) (Ok s) e = cc
+members_alike (Ok r) (Err b) e = absurd (not_both (sym e))
+members_alike (Err a) (Ok s) e = absurd (not_both e)
+members_alike (Err a) (Err b) e = ap Err (same_refusal a b e)
 
 -- ---- the entries
 

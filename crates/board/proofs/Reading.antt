@@ -10,6 +10,9 @@ use native.Mathlib.Nat.{eq-or-lt_of_le, pow-suc, pow-le-pow_right}
 use lib.ListN.{length}
 use lib.Dec.{leb}
 use borrow.Author.Tests.{le-leb, lt-leb, eq-eqb, ne_eqb}
+use Rattle.std.specs.Prelude.{Result, Ok, Err}
+use Rattle.std.specs.Result.{is_err}
+use Rattle.refusal.specs.declared.Refusal.{Refusal}
 use Rattle.refusal.specs.Answer.{Answer, Served, Refused, ◌unless◌, ◌then◌}
 use Rattle.refusal.proofs.Answers.{not_both}
 use Rattle.order.specs.Order.{keep}
@@ -58,6 +61,11 @@ pub without_fault : (bytes : List ℕ) (g : ℕ) → g < 2 * length bytes → (1
 unfolding first_fault keep
 without_fault bytes g h one = rw (group_sound bytes g h one)
 
+-- where none is found
+pub no_fault : (r : Result (Unit {0}) Refusal) → is_err r ≡ false → r ≡ Ok tt
+no_fault (Ok x) e = refl
+no_fault (Err refusal) e = cc
+
 -- what the first fault of one group says
 pub one_fault : (bytes : List ℕ) (g : ℕ) {t : Bool} → first_fault bytes (keep (faulty bytes) (g ∷ [])) ≡ Served t → faulty bytes g ≡ false
 unfolding first_fault keep
@@ -79,16 +87,6 @@ some_fault bytes g e = go (faulty bytes g) e
 pub level_start : (bytes : List ℕ) → AtLevel bytes 0 0 1
 unfolding groups joints level
 level_start bytes = record { starts = refl; counts = refl; sound = λ i k. absurd (omega arith) }
-
--- a level begins with none of its groups read
-pub group_start : (bytes : List ℕ) (n g boxes : ℕ) → AtLevel bytes n g boxes → AtGroup bytes n 0 0 g
-group_start bytes n g boxes l = record {
-  place = omega (arith, l.starts);
-  within = omega arith;
-  few = omega arith;
-  sum = rw l.starts (omega arith);
-  sound = l.sound;
-}
 
 -- one group more, without a fault
 pub group_step : (bytes : List ℕ) (n ones i g : ℕ) → AtGroup bytes n ones i g → i < length (joints n bytes) → faulty bytes g ≡ false

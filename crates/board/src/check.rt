@@ -1,118 +1,98 @@
 // The check of a bitmap: the height, then level by level and group by group, then the size, then the number of joints.
-ghost use Rattle.std.specs.Prelude.{◌≡◌, [], ◌∷◌, ◌≤◌, leb};
+ghost use Rattle.std.specs.Prelude.{◌≡◌, true, [], ◌∷◌, ◌≤◌, leb, IfSome};
 ghost use Rattle.refusal.specs.Answer.{Served, ◌unless◌, ◌then◌};
+ghost use Rattle.refusal.specs.Results.{answer_by};
 ghost use Rattle.order.specs.Order.{keep};
 ghost use Rattle.board.specs.Limits.{max_height, max_joints};
 ghost use Rattle.board.specs.Check.{faulty, first_fault, enough, check_of};
-ghost use Rattle.board.specs.Numbers.{found_of, numbers_of};
+ghost use Rattle.board.specs.Numbers.{numbers_of};
 ghost use Rattle.board.specs.Run.{run, Sound16};
 
-use crate::{MAX_HEIGHT, MAX_JOINTS};
+use crate::{Counts, MAX_HEIGHT, MAX_JOINTS};
 use bitmap::{GroupNo, group_at, ones_of, word_at};
 use refusal::Refusal;
 
-// What the check says: the joints and the boxes of a valid bitmap, or why it is refused.
-#[derive(Clone, Copy)]
-pub enum Checked {
-    Board { joints: u32, boxes: u32 },
-    Refused(Refusal),
-}
-
-// What is wrong with a group, if anything is.
-#[derive(Clone, Copy)]
-enum Fault {
-    Nothing,
-    Found(Refusal),
-}
-
 // The fault of a group that must be there.
-fn fault_at(bytes: &[u8], group: GroupNo) -> Fault
-    ensures { found_of result ≡ first_fault bytes.now (keep (faulty bytes.now) (group.0 ∷ [])) }
+#[tactic(auto, using(crate::proofs::Reading::missing_fault, crate::proofs::Reading::empty_fault, crate::proofs::Reading::without_fault))]
+fn fault_at(bytes: &[u8], group: GroupNo) -> Result<(), Refusal>
+    ensures { answer_by (λ _. true) result ≡ first_fault bytes.now (keep (faulty bytes.now) (group.0 ∷ [])) }
 {
     if bytes.len() <= (group.number() / 2) as usize {
-        return Fault::Found(Refusal::CutShort);
+        return Err(Refusal::CutShort);
     }
-    if group.number() == 0 {
-        return Fault::Nothing;
+    if group.number() != 0 && group_at(bytes, group) == 0 {
+        return Err(Refusal::EmptyGroup);
     }
-    if group_at(bytes, group) == 0 {
-        return Fault::Found(Refusal::EmptyGroup);
-    }
-    Fault::Nothing
+    Ok(())
 }
 
 // The groups of a word.
 const RUN: u32 = 16;
 
 // The lowest bit of each group of a word.
-const MARKS: u64 = 1229782938247303441;
+const MARKS: u64 = 0x1111_1111_1111_1111;
 
-// The ones of sixteen groups at once, from one on that begins a byte, where so many are left, all are there and none is zero; 0 otherwise.
-fn ones_of_run(bytes: &[u8], group: GroupNo, left: u32) -> u32
-    ensures { (result ≤ 64) × (1 ≤ result → (run ≤ left) × Sound16 bytes.now group.0 result) }
+// The ones of sixteen groups at once, from one on that begins a byte, where so many are left, all are there and none is zero.
+fn ones_of_run(bytes: &[u8], group: GroupNo, left: u32) -> Option<u32>
+    ensures { IfSome result (λ ones. (ones ≤ 64) × (run ≤ left) × Sound16 bytes.now group.0 ones) }
 {
     let number = group.number();
-    if left < RUN {
-        return 0;
-    }
-    if number % 2 != 0 {
-        return 0;
+    if left < RUN || number % 2 != 0 {
+        return None;
     }
     let at = (number / 2) as usize;
     if bytes.len() < at + 8 {
-        return 0;
+        return None;
     }
     let word = word_at(bytes, at);
     let pairs = word | (word >> 1);
     let fours = pairs | (pairs >> 2);
     if fours & MARKS != MARKS {
-        return 0;
+        return None;
     }
-    u64::count_ones(word)
+    Some(word.count_ones())
 }
 
 // The end of the check, of a board whose groups are all there and of its joints.
-fn measured(bytes: &[u8], groups: GroupNo, joints: u32) -> Checked
+#[tactic(auto, using(crate::proofs::Reading::size_off, crate::proofs::Reading::spare_off, crate::proofs::Reading::size_right), unfolding(crate::specs::Limits::max_joints))]
+fn measured(bytes: &[u8], groups: GroupNo, joints: u32) -> Result<Counts, Refusal>
     ensures { numbers_of result ≡ (4 unless enough bytes.now groups.0 then 5 unless leb joints max_joints then Served (joints ∷ groups.0 ∷ [])) }
 {
-    if bytes.len() != (groups.number() as usize + 1) / 2 {
-        return Checked::Refused(Refusal::LeftOver);
-    }
-    if group_at(bytes, groups) != 0 {
-        return Checked::Refused(Refusal::LeftOver);
+    if bytes.len() != groups.number().div_ceil(2) as usize || group_at(bytes, groups) != 0 {
+        return Err(Refusal::LeftOver);
     }
     if MAX_JOINTS < joints {
-        return Checked::Refused(Refusal::TooManyJoints);
+        return Err(Refusal::TooManyJoints);
     }
-    Checked::Board {
-        joints: joints,
+    Ok(Counts {
+        joints,
         boxes: groups.number(),
-    }
+    })
 }
 
 // The check of a board of a height that is served. The ones of a level are the boxes of the next, and in the end the joints; the first
 // fault ends all levels at once.
-fn check_levels(height: u32, bytes: &[u8]) -> Checked
+#[tactic(auto, using(bitmap::proofs::Ones::ones_small, crate::proofs::Reading::level_fits, crate::proofs::Reading::level_end))]
+fn check_levels(height: u32, bytes: &[u8]) -> Result<Counts, Refusal>
     requires { (1 ≤ height) × (height ≤ max_height) }
     ensures { numbers_of result ≡ check_of height bytes.now }
 {
-    let mut fault = Fault::Nothing;
+    let mut fault = Ok(());
     let mut group = GroupNo::root();
     let mut boxes: u32 = 1;
-    let mut level: u32 = 0;
-    'levels: while level < height {
+    'levels: for _level in 0..height {
         let mut ones: u32 = 0;
         let mut n: u32 = 0;
+        // A step is a word of groups or one group.
         while n < boxes {
-            let many = ones_of_run(bytes, group, boxes - n);
-            if 0 < many {
+            if let Some(many) = ones_of_run(bytes, group, boxes - n) {
                 ones += many;
                 group = group.after(RUN);
                 n += RUN;
                 continue;
             }
             fault = fault_at(bytes, group);
-            if let Fault::Found(_) = fault {
+            if fault.is_err() {
                 break 'levels;
             }
             ones += ones_of(group_at(bytes, group));
@@ -120,23 +100,18 @@ fn check_levels(height: u32, bytes: &[u8]) -> Checked
             n += 1;
         }
         boxes = ones;
-        level += 1;
     }
-    if let Fault::Found(refusal) = fault {
-        return Checked::Refused(refusal);
-    }
+    fault?;
     measured(bytes, group, boxes)
 }
 
 // The check of any bytes as a board of any height.
-pub fn check(height: u32, bytes: &[u8]) -> Checked
+#[tactic(auto, using(crate::proofs::Reading::check_low, crate::proofs::Reading::check_high), unfolding(crate::specs::Limits::max_height))]
+pub fn check(height: u32, bytes: &[u8]) -> Result<Counts, Refusal>
     ensures { numbers_of result ≡ check_of height bytes.now }
 {
-    if height < 1 {
-        return Checked::Refused(Refusal::Height);
-    }
-    if MAX_HEIGHT < height {
-        return Checked::Refused(Refusal::Height);
+    if height < 1 || MAX_HEIGHT < height {
+        return Err(Refusal::Height);
     }
     check_levels(height, bytes)
 }

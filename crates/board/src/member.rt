@@ -1,20 +1,12 @@
 // Whether a cell is stored.
 ghost use Rattle.std.specs.Prelude.{◌≡◌, ◌+◌, ◌*◌, ◌/◌, ◌%◌, ◌^◌, ◌<◌};
+ghost use Rattle.refusal.specs.Results.{answer_of};
 ghost use Rattle.board.specs.Ready.{Ready};
-ghost use Rattle.board.specs.Member.{on_board, stored, member_of, member_numbers};
+ghost use Rattle.board.specs.Member.{on_board, stored, member_of};
 
-use crate::ask::ask;
-use crate::check::Checked;
-use bitmap::{GroupNo, bit_at, child_of};
+use crate::Board;
+use bitmap::{GroupNo, Ranked, bit_at};
 use refusal::Refusal;
-
-// What membership says.
-#[derive(Clone, Copy)]
-pub enum Membership {
-    Stored,
-    Absent,
-    Refused(Refusal),
-}
 
 // Whether a cell is on the board.
 #[tactic(auto, using(crate::proofs::Down::on_by_quotients, crate::proofs::Down::off_by_row, crate::proofs::Down::off_by_column))]
@@ -22,13 +14,7 @@ pub fn on_board(height: u32, row: u32, column: u32) -> bool
     requires { height < 32 }
     ensures { result ≡ on_board height row column }
 {
-    if row >> height != 0 {
-        return false;
-    }
-    if column >> height != 0 {
-        return false;
-    }
-    true
+    row >> height == 0 && column >> height == 0
 }
 
 // Which quarter of the box that holds it a cell is in, where the quarters have so many levels left under them.
@@ -40,36 +26,35 @@ fn quarter_of(left: u32, row: u32, column: u32) -> u32
 }
 
 // Down from the whole board, by the bit of the cell's quarter and the group that it leads to.
-fn is_stored(height: u32, bytes: &[u8], directory: &[u16], row: u32, column: u32) -> bool
-    requires { Ready height bytes.now directory.now × (row < 2 ^ height) × (column < 2 ^ height) }
-    ensures { result ≡ stored height bytes.now row column }
+fn is_stored(board: Board, row: u32, column: u32) -> bool
+    requires { Ready board.height board.bytes.now board.directory.now × (row < 2 ^ board.height) × (column < 2 ^ board.height) }
+    ensures { result ≡ stored board.entry.height board.entry.bytes.now row column }
 {
-    let mut left = height;
+    let ranked = Ranked {
+        bytes: board.bytes,
+        directory: board.directory,
+    };
     let mut group = GroupNo::root();
-    while 0 < left {
-        left -= 1;
+    for left in (0..board.height).rev() {
         let p = group.bit(quarter_of(left, row, column));
-        if bit_at(bytes, p) == 0 {
+        if bit_at(board.bytes, p) == 0 {
             return false;
         }
-        group = child_of(bytes, directory, p);
+        group = ranked.child_of(p);
     }
     true
 }
 
-// Whether a cell is stored, of any bytes with any directory.
-pub fn member(height: u32, bytes: &[u8], directory: &[u16], row: u32, column: u32) -> Membership
-    ensures { member_numbers result ≡ member_of height bytes.now directory.now row column }
-{
-    if let Checked::Refused(refusal) = ask(height, bytes, directory) {
-        return Membership::Refused(refusal);
-    }
-    if !on_board(height, row, column) {
-        return Membership::Refused(Refusal::Cell);
-    }
-    if is_stored(height, bytes, directory, row, column) {
-        Membership::Stored
-    } else {
-        Membership::Absent
+impl Board<'_> {
+    // Whether a cell is stored, of any bytes with any directory.
+    #[tactic(auto, using(crate::proofs::Asking::asked_ready, crate::proofs::Asking::asked_refused, crate::proofs::Asking::asked_served, crate::proofs::Down::on_board_both), unfolding(crate::specs::Member::member_of))]
+    pub fn member(self, row: u32, column: u32) -> Result<bool, Refusal>
+        ensures { answer_of result ≡ member_of self.entry.height self.entry.bytes.now self.entry.directory.now row column }
+    {
+        self.ask()?;
+        if !on_board(self.height, row, column) {
+            return Err(Refusal::Cell);
+        }
+        Ok(is_stored(self, row, column))
     }
 }

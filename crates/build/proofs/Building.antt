@@ -20,7 +20,7 @@ use Rattle.board.specs.Levels.{Box, groups}
 use Rattle.board.specs.Code.{code_of}
 use Rattle.board.proofs.Codes.{in_below, decode, code_decode, code_below}
 use Rattle.build.specs.declared.Built.{Built}
-use Rattle.build.specs.declared.Built.TheVariants.{Board, Refused as Turned}
+use Rattle.std.specs.Prelude.{Result, Ok, Err}
 use Rattle.build.specs.Build.{groups_from, once_each, set_of, bitmap_of_codes, bitmap_of}
 use Rattle.build.specs.Writing.{fit, Written}
 use Rattle.build.specs.Answers.{cells_of, all_on, given_of, codes_built_of, built_of}
@@ -67,13 +67,13 @@ module _ (h : ℕ) (codes : List ℕ) where
 
 -- a refusal leaves zeros
 pub kept_refused : (answer : Answer (List ℕ)) (bytes : List ℕ) (work room : ℕ) (refusal : Refusal) (work' bitmap' : List ℕ)
-    → answer ≡ Refused (number_of refusal) → work' ≡ replicate work 0 → bitmap' ≡ replicate room 0 → Kept answer bytes work room (Turned refusal) work' bitmap'
+    → answer ≡ Refused (number_of refusal) → work' ≡ replicate work 0 → bitmap' ≡ replicate room 0 → Kept answer bytes work room (Err refusal) work' bitmap'
 unfolding left_in
 kept_refused answer bytes work room refusal work' bitmap' e w b = record { answered = sym e; work_left = w; bitmap_left = rw e b }
 
 -- a served answer leaves the bytes, and zeros behind them
 pub kept_served : (answer : Answer (List ℕ)) (bytes : List ℕ) (work room j g l : ℕ) (work' bitmap' : List ℕ)
-    → answer ≡ Served (j ∷ g ∷ l ∷ []) → length bytes ≤ room → work' ≡ replicate work 0 → bitmap' ≡ fit room bytes → Kept answer bytes work room (Board j g l) work' bitmap'
+    → answer ≡ Served (j ∷ g ∷ l ∷ []) → length bytes ≤ room → work' ≡ replicate work 0 → bitmap' ≡ fit room bytes → Kept answer bytes work room (Ok (record { joints = j; boxes = g; length = l })) work' bitmap'
 unfolding left_in
 kept_served answer bytes work room j g l work' bitmap' e fits w b = record { answered = sym e; work_left = w; bitmap_left = rw e (b ∙ fit_all room bytes fits) }
 
@@ -88,6 +88,10 @@ module _ {h : ℕ} {work : List ℕ} {n : ℕ} {m : List ℕ} {r : ℕ} (t : Tid
   pub tidy_first : take r m ≡ once_each (take n work)
   tidy_first = rw (t.left.has, append_assoc) (take_at (once_each (take n work)) _ r (sym t.left.many))
 
+  -- so many
+  pub tidy_long : length (take r m) ≡ r
+  tidy_long = ap length tidy_first ∙ sym t.left.many
+
   -- rising
   pub tidy_rising : Rising (take r m)
   tidy_rising = rw tidy_first (set_rising (take n work))
@@ -98,7 +102,7 @@ module _ {h : ℕ} {work : List ℕ} {n : ℕ} {m : List ℕ} {r : ℕ} (t : Tid
 
   -- more than the limit
   pub end_many : (room : ℕ) (refusal : Refusal) (work' bitmap' : List ℕ) → number_of refusal ≡ 5 → max_joints < r
-      → work' ≡ replicate (length work) 0 → bitmap' ≡ replicate room 0 → Kept (codes_built_of h (take n work) room) (bitmap_of_codes h (take n work)) (length work) room (Turned refusal) work' bitmap'
+      → work' ≡ replicate (length work) 0 → bitmap' ≡ replicate room 0 → Kept (codes_built_of h (take n work) room) (bitmap_of_codes h (take n work)) (length work) room (Err refusal) work' bitmap'
   end_many room refusal work' bitmap' e many w b =
       kept_refused _ _ _ room refusal work' bitmap' (rw e (codes_many h (take n work) room (omega (arith, t.left.many)))) w b
 
@@ -109,13 +113,13 @@ module _ {h : ℕ} {work : List ℕ} {n : ℕ} {m : List ℕ} {r : ℕ} (t : Tid
 
     -- more than there is room for
     pub end_room : (room : ℕ) (refusal : Refusal) (work' bitmap' : List ℕ) → number_of refusal ≡ 18 → room < (g + 1) / 2
-        → work' ≡ replicate (length work) 0 → bitmap' ≡ replicate room 0 → Kept (codes_built_of h (take n work) room) (bitmap_of_codes h (take n work)) (length work) room (Turned refusal) work' bitmap'
+        → work' ≡ replicate (length work) 0 → bitmap' ≡ replicate room 0 → Kept (codes_built_of h (take n work) room) (bitmap_of_codes h (take n work)) (length work) room (Err refusal) work' bitmap'
     end_room room refusal work' bitmap' e short z b =
         kept_refused _ _ _ room refusal work' bitmap' (rw e (codes_room h (take n work) room (omega (arith, t.left.many)) (omega (arith, due)))) z b
 
     -- no more
     pub end_served : (room : ℕ) (work' : List ℕ) → length bytes ≡ room → (g + 1) / 2 ≤ room → work' ≡ replicate (length work) 0
-        → Kept (codes_built_of h (take n work) room) (bitmap_of_codes h (take n work)) (length work) room (Board r g ((g + 1) / 2)) work' bytes
+        → Kept (codes_built_of h (take n work) room) (bitmap_of_codes h (take n work)) (length work) room (Ok (record { joints = r; boxes = g; length = (g + 1) / 2 })) work' bytes
     end_served room work' long fits z =
         let count : groups h (bitmap_of_codes h (take n work)) ≡ g =
         boxes_are h (take n work) t.low t.small ∙ sym (w.next ∙ ap (λ (ds : List ℕ). length (groups_from h (0 ∷ []) ds)) tidy_first) in
@@ -181,7 +185,7 @@ module _ (h : ℕ) (rows columns work m : List ℕ) (e : given_of h rows columns
   filled_small z i = codes_small h (cells_of rows columns) z (rw filled_first at i)
 
   -- what is built from them is built from the cells
-  pub filled_kept : (room : ℕ) (r : Built) (work' bitmap' : List ℕ) → length m ≡ length work
+  pub filled_kept : (room : ℕ) (r : Result Built Refusal) (work' bitmap' : List ℕ) → length m ≡ length work
       → Kept (codes_built_of h (take (length rows) m) room) (bitmap_of_codes h (take (length rows) m)) (length m) room r work' bitmap'
       → Kept (built_of h rows columns (length work) room) (bitmap_of h (cells_of rows columns)) (length work) room r work' bitmap'
   unfolding bitmap_of

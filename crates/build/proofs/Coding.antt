@@ -1,13 +1,15 @@
 -- Cells given by a row list and a column list: the invariants of the loops that test them, make a code and fill the work list.
 use Prim.Native.Nat.{ℕ, zero, suc, ◌+◌, ◌*◌, ◌-◌, ◌/◌, ◌%◌, ◌^◌, ◌≤◌, ◌<◌}
-use mathlib.Core.Bool.{true, false}
+use mathlib.Core.Bool.{Bool, true, false, ◌&&◌}
 use mathlib.Core.Path.{◌≡◌, refl, sym, ap, ◌∙◌}
 use mathlib.Core.List.{List, [], ◌∷◌, ◌++◌, map, map-append}
 use native.Mathlib.Omega.{arith}
 use native.Mathlib.Numerals.{add-one}
-use native.Mathlib.Nat.{sub_self, sub-zero, div-one, pow-zero, pow-suc, div-div-eq-div-mul, pow-le-pow_right}
+use native.Mathlib.Nat.{sub_self, pow-suc, div-div-eq-div-mul, pow-le-pow_right}
 use lib.ListN.{length, get_or, set, take, drop, length-map, length-set}
-use lib.Seq.{drop-cons, take-suc, set_at, append_snoc, length-take-le, take_all, drop-length}
+use lib.Seq.{drop-cons, take-suc, set_at, append_snoc, length-take-le}
+use Rattle.std.specs.Bool.{MatchBool}
+use Rattle.std.specs.List.{zip, AllWithin, HoldsAt}
 use Rattle.board.specs.Limits.{max_height}
 use Rattle.board.specs.Levels.{Box}
 use Rattle.board.specs.Code.{code, code_of}
@@ -36,12 +38,6 @@ coding_step h r c (suc left) found pos k =
     half : (x : ℕ) → x / 2 ^ left / 2 ≡ x / 2 ^ suc left
     half x = rw (pow-suc, div-div-eq-div-mul)
 
--- all of them
-pub coding_end : (h r c left found : ℕ) → left ≤ 0 → Coding h r c left found → found ≡ code h r c
-coding_end h r c left found le k =
-    let q : left ≡ 0 = omega arith in
-    rw (q, sub-zero, pow-zero, div-one, div-one) at k.is
-
 -- a code within the limits has room to grow
 pub coding_small : (h r c left found : ℕ) → h ≤ max_height → Coding h r c left found → found < 4 ^ 12
 unfolding max_height
@@ -50,36 +46,32 @@ coding_small h r c left found low k =
     let few : 4 ^ (h - left) ≤ 4 ^ 12 = pow-le-pow_right {n = 4} (omega arith) le in
     omega (arith, code_below (h - left) (r / 2 ^ left) (c / 2 ^ left), k.is)
 
--- the cell at a place, and those behind it
-cells_at : (rows columns : List ℕ) (i : ℕ) → i < length rows → length rows ≡ length columns
-    → cells_of (drop i rows) (drop i columns) ≡ record { row = get_or rows i 0; col = get_or columns i 0 } ∷ cells_of (drop (suc i) rows) (drop (suc i) columns)
-unfolding cells_of
-cells_at rows columns i lt e = rw (drop-cons rows i 0 lt, drop-cons columns i 0 (omega arith))
+-- every row and column in one place are a cell on the board
+tested_all : (h : ℕ) (rows columns : List ℕ) → AllWithin (λ (p : ℕ × ℕ). on_board h p.0 p.1 ≡ true) (zip rows columns) 0 (length (zip rows columns)) → all_on h (cells_of rows columns) ≡ true
+unfolding all_on cells_of
+tested_all h [] columns on = refl
+tested_all h (r ∷ rows) [] on = refl
+tested_all h (r ∷ rows) (c ∷ columns) on = rw (on 0 (r, c) (omega arith) (omega arith)) (tested_all h rows columns (λ k d low high. on (suc k) d (omega arith) (omega arith)))
 
--- the cells before place i are on the board
-pub record Tested (h : ℕ) (rows columns : List ℕ) (i : ℕ) : Type 0 where
-  pub high : i ≤ length rows
-  pub rest : all_on h (cells_of rows columns) ≡ all_on h (cells_of (drop i rows) (drop i columns))
+-- or those in one place are not
+tested_off : (h : ℕ) (rows columns : List ℕ) (k : ℕ) → k < length (zip rows columns) → HoldsAt (λ (p : ℕ × ℕ). on_board h p.0 p.1 ≡ false) (zip rows columns) k → all_on h (cells_of rows columns) ≡ false
+unfolding all_on cells_of
+tested_off h [] columns k l off = absurd (omega arith)
+tested_off h (r ∷ rows) [] k l off = absurd (omega arith)
+tested_off h (r ∷ rows) (c ∷ columns) zero l off = rw (off (r, c))
+tested_off h (r ∷ rows) (c ∷ columns) (suc k) l off = rw (tested_off h rows columns k (omega arith) off) (last (on_board h r c))
+  where
+    last : (t : Bool) → t && false ≡ false
+    last true = refl
+    last false = refl
 
--- at first there are none
-pub tested_start : (h : ℕ) (rows columns : List ℕ) → Tested h rows columns 0
-tested_start h rows columns = record { high = omega arith; rest = refl }
-
-module _ {h : ℕ} {rows columns : List ℕ} {i : ℕ} (k : Tested h rows columns i) (e : length rows ≡ length columns) where
-  -- a cell off the board
-  pub cell_off : i < length rows → on_board h (get_or rows i 0) (get_or columns i 0) ≡ false → false ≡ all_on h (cells_of rows columns)
-  unfolding all_on
-  cell_off lt off = rw (k.rest, cells_at rows columns i lt e, off)
-
-  -- a cell on it
-  pub tested_step : i < length rows → on_board h (get_or rows i 0) (get_or columns i 0) ≡ true → Tested h rows columns (i + 1)
-  unfolding all_on
-  tested_step lt on = rw add-one (record { high = lt; rest = rw (k.rest, cells_at rows columns i lt e, on) })
-
-  -- all cells
-  pub tested_end : length rows ≤ i → true ≡ all_on h (cells_of rows columns)
-  unfolding all_on cells_of
-  tested_end le = let q : i ≡ length rows = omega (arith, k.high) in rw (k.rest, q, drop-length)
+-- so the test of all is told by those of each
+pub tested : (h : ℕ) (rows columns : List ℕ) (t : Bool)
+    → MatchBool t (AllWithin (λ (p : ℕ × ℕ). on_board h p.0 p.1 ≡ true) (zip rows columns) 0 (length (zip rows columns)))
+    ((k : ℕ) × (k < length (zip rows columns)) × HoldsAt (λ (p : ℕ × ℕ). on_board h p.0 p.1 ≡ false) (zip rows columns) k)
+    → t ≡ all_on h (cells_of rows columns)
+tested h rows columns true on = sym (tested_all h rows columns on)
+tested h rows columns false off = sym (tested_off h rows columns off.0 off.1 off.2)
 
 -- one cell more
 cells_snoc : (rows columns : List ℕ) (r c : ℕ) → length rows ≡ length columns → cells_of (rows ++ r ∷ []) (columns ++ c ∷ []) ≡ cells_of rows columns ++ record { row = r; col = c } ∷ []
@@ -123,7 +115,3 @@ module _ {h : ℕ} {rows columns work₀ : List ℕ} {i : ℕ} {work : List ℕ}
             (set_at front (get_or work₀ i 0) (drop (suc i) work₀) (code h (get_or rows i 0) (get_or columns i 0)) i many);
         as_long = length-set work i _ ∙ k.as_long;
       })
-
-  -- all
-  pub filled_end : length rows ≤ i → work ≡ map (code_of h) (cells_of rows columns) ++ drop (length rows) work₀
-  filled_end le = let q : i ≡ length rows = omega (arith, k.high) in rw (k.has, q, take_all (length rows) rows (omega arith), take_all (length rows) columns (omega arith))

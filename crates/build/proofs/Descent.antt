@@ -85,7 +85,8 @@ blank zero = refl
 blank (suc n) = ap (λ (l : List ℕ). 0 ∷ l) (fit_none n)
 
 -- so that an empty bitmap is the bitmap of no cells
-pub descent_none : (h : ℕ) (bitmap : List ℕ) → 1 ≤ h → bitmap ≡ replicate (length bitmap) 0 → Written (groups_from h (0 ∷ []) []) 1 bitmap
-descent_none zero bitmap low e = absurd (omega arith)
-descent_none (suc s) bitmap low e =
+pub descent_none : (h : ℕ) (ds bitmap : List ℕ) → length ds ≡ 0 → 1 ≤ h → bitmap ≡ replicate (length bitmap) 0 → Written (groups_from h (0 ∷ []) ds) 1 bitmap
+descent_none h (d ∷ ds) bitmap none low e = absurd (omega arith)
+descent_none zero [] bitmap none low e = absurd (omega arith)
+descent_none (suc s) [] bitmap none low e =
     rw (one_group s) (record { next = refl; small = below_one 16 0 (omega arith) (omega arith); has = e ∙ sym (blank (length bitmap)) })

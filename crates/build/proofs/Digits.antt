@@ -3,7 +3,7 @@ use Prim.Native.Nat.{ℕ, zero, suc, ◌*◌, ◌-◌, ◌/◌, ◌%◌, ◌^◌
 use mathlib.Core.Path.{◌≡◌, refl}
 use native.Mathlib.Omega.{arith}
 use native.Mathlib.Nat.{pow-suc}
-use Rattle.build.specs.Writing.{worth, in_byte}
+use Rattle.build.specs.Writing.{worth}
 
 -- two bits are a digit to base four
 pub two_bits : (s : ℕ) → 2 ^ (2 * s) ≡ 4 ^ s
@@ -33,11 +33,3 @@ worth_small y = go (y % 4) (omega arith)
     go (suc (suc zero)) h = omega arith
     go (suc (suc (suc zero))) h = omega arith
     go (suc (suc (suc (suc q)))) h = absurd (omega arith)
-
--- a group of even number is the upper half of its byte
-pub in_upper : (g bits : ℕ) → g % 2 ≡ 0 → in_byte g bits ≡ bits * 16
-in_upper g bits e = rw e (omega arith)
-
--- one of odd number the lower half
-pub in_lower : (g bits : ℕ) → (g % 2 ≡ 0 → ⊥) → in_byte g bits ≡ bits
-in_lower g bits n = let e : g % 2 ≡ 1 = omega arith in rw e (omega arith)

@@ -4,365 +4,271 @@
 
 ghost use Rattle.std.specs.Prelude.{◌≤◌, ◌<◌};
 
-use board::check::{Checked, check};
+use board::check::check;
 use board::directory::make_directory;
-use board::member::{Membership, member};
-use build::Built;
-use window::{Windowed, window};
+use board::{Board, Counts};
+use build::{Built, build};
+use refusal::Refusal;
+use say::{Answer, Hex, nonzero};
+use std::{fmt, io};
+use window::window;
 
 mod lists;
 
-// A length; all of them here are small.
-fn say_size(n: usize) {
-    if n < 65536 {
-        say::number(n as u32);
-    }
-}
+// What the check counts.
+#[derive(Clone, Copy)]
+struct Counted(Counts);
 
-fn say_checked(answer: Checked) {
-    match answer {
-        Checked::Board { joints, boxes } => {
-            say::number(joints);
-            say::text(b" ");
-            say::number(boxes);
-        }
-        Checked::Refused(refusal) => say::refused(refusal),
+impl fmt::Display for Counted {
+    fn fmt<W: fmt::Write>(&self, f: &mut fmt::Formatter<W>) -> fmt::Result {
+        let Counts { joints, boxes } = self.0;
+        write!(f, "{joints} {boxes}")
     }
-}
-
-fn wide(b: u8) -> u32
-    ensures { result < 256 }
-{
-    b as u32
-}
-
-// A sum that every byte and its place change.
-fn sum(bytes: &[u8]) -> u32 {
-    let mut total: u32 = 0;
-    for i in 0..bytes.len() {
-        total = (total * 31 + wide(bytes[i]) + 1) % 65521;
-    }
-    total
-}
-
-fn say_nonzero_words(list: &[u32]) {
-    let mut count: usize = 0;
-    for i in 0..list.len() {
-        if list[i] != 0 {
-            count += 1;
-        }
-    }
-    say_size(count);
-}
-
-fn say_nonzero_bytes(list: &[u8]) {
-    let mut count: usize = 0;
-    for i in 0..list.len() {
-        if list[i] != 0 {
-            count += 1;
-        }
-    }
-    say_size(count);
 }
 
 // A sum that every number and its place change.
-fn sum_of(list: &[u32]) -> u32 {
+fn sum<T: Copy + Into<u32>>(list: &[T]) -> u32 {
     let mut total: u32 = 0;
-    for i in 0..list.len() {
-        total = (total * 31 + list[i] % 65521 + 1) % 65521;
+    for n in list {
+        let n: u32 = (*n).into();
+        total = (total * 31 + n % 65521 + 1) % 65521;
     }
     total
 }
 
-// The cells of the whole board in bitmap order, and zeros behind them.
-fn say_window(height: u32, bytes: &[u8], directory: &[u16], rows: &mut [u32], columns: &mut [u32])
-    requires { height < 32 }
+// Whether a cell is stored; one off the board is refused.
+fn mark(answer: Result<bool, Refusal>) -> char {
+    match answer {
+        Ok(true) => '1',
+        Ok(false) => '0',
+        Err(_) => '-',
+    }
+}
+
+// The cells of the whole board in bitmap order with zeros behind them, and whether cells of the diagonal and of column 1 are stored.
+fn show_read(rt: &impl Print, board: Board) -> io::Result<()>
+    requires { board.height < 32 }
 {
-    say::text(b", window ");
-    let last = 2147483647 >> (31 - height);
-    match window(height, bytes, directory, 0, last, 0, last, rows, columns) {
-        Windowed::Cells(n) => say::number(n),
-        Windowed::Refused(refusal) => say::refused(refusal),
-    }
-    say::text(b" ");
-    say::number(sum_of(rows));
-    say::text(b" ");
-    say::number(sum_of(columns));
-}
-
-fn say_member(height: u32, bytes: &[u8], directory: &[u16], row: u32, column: u32) {
-    match member(height, bytes, directory, row, column) {
-        Membership::Stored => say::text(b"1"),
-        Membership::Absent => say::text(b"0"),
-        Membership::Refused(_) => say::text(b"-"),
-    }
-}
-
-// Whether cells of the diagonal and of column 1 are stored; those off the board are refused.
-fn say_members(height: u32, bytes: &[u8], directory: &[u16]) {
-    say::text(b", members ");
+    let mut rows = [7; 4096];
+    let mut columns = [7; 4096];
+    let last = (1 << board.height) - 1;
+    let answer = Answer(window(board, 0, last, 0, last, &mut rows, &mut columns));
+    print!(rt;
+        ", window {answer} {} {}, members ",
+        sum(&rows),
+        sum(&columns)
+    )?;
     for i in 0..6 {
-        say_member(height, bytes, directory, i, i);
-        say_member(height, bytes, directory, i, 1);
+        print!(rt; "{}{}", mark(board.member(i, i)), mark(board.member(i, 1)))?;
     }
+    Ok(())
 }
 
-// What is read back by the directory.
-fn say_read(height: u32, bytes: &[u8], directory: &mut [u16])
+// What is read back by the directory: one number for each started block of 64 bytes.
+fn show_asked(rt: &impl Print, height: u32, bytes: &[u8]) -> io::Result<()>
     requires { height < 32 }
 {
-    make_directory(height, bytes, directory);
-    say_window(height, bytes, directory, &mut [7; 4096], &mut [7; 4096]);
-    say_members(height, bytes, directory);
-}
-
-// The directory's length is one number for each started block of 64 bytes.
-fn say_asked(height: u32, bytes: &[u8], space: &mut [u16])
-    requires { height < 32 }
-{
-    let blocks = (bytes.len() + 63) / 64;
-    if blocks <= space.len() {
-        say_read(height, bytes, &mut space[..blocks]);
-    }
+    let mut space = [7; 140];
+    let Some(directory) = space.get_mut(..bytes.len().div_ceil(64)) else {
+        return Ok(());
+    };
+    let _ = make_directory(height, bytes, directory);
+    let board = Board {
+        height,
+        bytes,
+        directory,
+    };
+    show_read(rt, board)
 }
 
 // The bytes in full where they are few, what is read of them, and what is left behind them.
-fn say_bitmap(height: u32, bitmap: &[u8], length: usize) {
-    if bitmap.len() < length {
-        return;
-    }
-    let bytes = &bitmap[..length];
-    say::text(b" sum ");
-    say::number(sum(bytes));
+fn show_bitmap(rt: &impl Print, height: u32, bitmap: &[u8], length: usize) -> io::Result<()> {
+    let Some((bytes, behind)) = bitmap.split_at_checked(length) else {
+        return Ok(());
+    };
+    print!(rt; " sum {}", sum(bytes))?;
     if length < 9 {
-        say::text(b" =");
-        say::bytes(bytes);
+        print!(rt; " ={}", Hex(bytes))?;
     }
-    say::text(b", check ");
-    say_checked(check(height, bytes));
+    print!(rt; ", check {}", Answer(check(height, bytes).map(Counted)))?;
     if height < 11 {
-        say_asked(height, bytes, &mut [7; 140]);
+        show_asked(rt, height, bytes)?;
     }
-    say::text(b", behind ");
-    say_nonzero_bytes(&bitmap[length..]);
+    print!(rt; ", behind {}", nonzero(behind))
 }
 
-fn say_built(height: u32, bitmap: &[u8], answer: Built) {
+fn show_built(
+    rt: &impl Print,
+    height: u32,
+    bitmap: &[u8],
+    answer: Result<Built, Refusal>,
+) -> io::Result<()> {
     match answer {
-        Built::Board {
-            joints,
-            boxes,
-            length,
-        } => {
-            say::number(joints);
-            say::text(b" joints ");
-            say::number(boxes);
-            say::text(b" boxes ");
-            say::number(length);
-            say::text(b" bytes");
-            say_bitmap(height, bitmap, length as usize);
+        Ok(board) => {
+            print!(rt;
+                "{} joints {} boxes {} bytes",
+                board.joints, board.boxes, board.length
+            )?;
+            show_bitmap(rt, height, bitmap, board.length as usize)
         }
-        Built::Refused(refusal) => {
-            say::refused(refusal);
-            say::text(b", left ");
-            say_nonzero_bytes(bitmap);
-        }
+        Err(refusal) => { print!(rt; "refused {}, left {}", refusal.number(), nonzero(bitmap)) }
     }
 }
 
-fn show(height: u32, rows: &[u32], columns: &[u32], work: &mut [u32], bitmap: &mut [u8]) {
-    say::text(b"build ");
-    say::number(height);
-    say::text(b" from ");
-    say_size(rows.len());
-    say::text(b" in ");
-    say_size(work.len());
-    say::text(b" ");
-    say_size(bitmap.len());
-    say::text(b": ");
-    let answer = build::build(height, rows, columns, work, bitmap);
-    say_built(height, bitmap, answer);
-    say::text(b", work ");
-    say_nonzero_words(work);
-    say::text(b"\n");
+fn show(
+    rt: &impl Print,
+    height: u32,
+    rows: &[u32],
+    columns: &[u32],
+    work: &mut [u32],
+    bitmap: &mut [u8],
+) -> io::Result<()> {
+    print!(rt;
+        "build {height} from {} in {} {}: ",
+        rows.len(),
+        work.len(),
+        bitmap.len()
+    )?;
+    let answer = build(height, rows, columns, work, bitmap);
+    show_built(rt, height, bitmap, answer)?;
+    println!(rt; ", work {}", nonzero(work))
 }
 
 // Room for what is small. What is lent for writing begins with other numbers than zero, here and below.
-fn show_small(height: u32, rows: &[u32], columns: &[u32]) {
-    show(height, rows, columns, &mut [7; 9], &mut [7; 12]);
+fn show_small(rt: &impl Print, height: u32, rows: &[u32], columns: &[u32]) -> io::Result<()> {
+    show(rt, height, rows, columns, &mut [7; 9], &mut [7; 12])
 }
 
 // Board A in several orders.
-fn show_orders() {
-    show_small(2, &[0, 1, 2, 3], &[1, 0, 3, 3]);
-    show_small(2, &[3, 2, 1, 0], &[3, 3, 0, 1]);
-    show_small(2, &[2, 0, 3, 1], &[3, 1, 3, 0]);
+fn show_orders(rt: &impl Print) -> io::Result<()> {
+    show_small(rt, 2, &[0, 1, 2, 3], &[1, 0, 3, 3])?;
+    show_small(rt, 2, &[3, 2, 1, 0], &[3, 3, 0, 1])?;
+    show_small(rt, 2, &[2, 0, 3, 1], &[3, 1, 3, 0])
 }
 
 // The same with doubles, four joints, one, and two far apart.
-fn show_sets() {
-    show_small(2, &[2, 0, 3, 1, 2, 2, 0], &[3, 1, 3, 0, 3, 3, 1]);
-    show_small(1, &[0, 0, 1, 1], &[0, 1, 0, 1]);
-    show_small(1, &[1, 1, 1], &[0, 0, 0]);
-    show_small(10, &[1023, 0], &[1023, 0]);
+fn show_sets(rt: &impl Print) -> io::Result<()> {
+    show_small(rt, 2, &[2, 0, 3, 1, 2, 2, 0], &[3, 1, 3, 0, 3, 3, 1])?;
+    show_small(rt, 1, &[0, 0, 1, 1], &[0, 1, 0, 1])?;
+    show_small(rt, 1, &[1, 1, 1], &[0, 0, 0])?;
+    show_small(rt, 10, &[1023, 0], &[1023, 0])
 }
 
 // No cells at all.
-fn show_nothing() {
+fn show_nothing(rt: &impl Print) -> io::Result<()> {
     for height in 1..11 {
-        show(height, &[], &[], &mut [], &mut [7; 2]);
+        show(rt, height, &[], &[], &mut [], &mut [7; 2])?;
     }
+    Ok(())
 }
 
 // The height comes before the lists' lengths, and those before the cells.
-fn show_lengths() {
-    show_small(0, &[0], &[]);
-    show_small(11, &[], &[]);
-    show_small(2, &[9], &[]);
-    show_small(2, &[0, 1], &[0]);
+fn show_lengths(rt: &impl Print) -> io::Result<()> {
+    show_small(rt, 0, &[0], &[])?;
+    show_small(rt, 11, &[], &[])?;
+    show_small(rt, 2, &[9], &[])?;
+    show_small(rt, 2, &[0, 1], &[0])
 }
 
 // The cells come before the room; doubles count for the work room.
-fn show_cells() {
-    show_small(2, &[0, 4], &[0, 0]);
-    show_small(2, &[0, 0], &[0, 4]);
-    show(2, &[0, 0], &[4, 0], &mut [7; 1], &mut []);
-    show(2, &[1, 1], &[1, 1], &mut [7; 1], &mut [7; 2]);
+fn show_cells(rt: &impl Print) -> io::Result<()> {
+    show_small(rt, 2, &[0, 4], &[0, 0])?;
+    show_small(rt, 2, &[0, 0], &[0, 4])?;
+    show(rt, 2, &[0, 0], &[4, 0], &mut [7; 1], &mut [])?;
+    show(rt, 2, &[1, 1], &[1, 1], &mut [7; 1], &mut [7; 2])
 }
 
 // The edges of the room.
-fn show_rooms() {
-    show(2, &[1, 1], &[1, 1], &mut [7; 2], &mut [7; 2]);
-    show_a(&mut [7; 1]);
-    show_a(&mut [7; 2]);
-    show_a(&mut [7; 3]);
-    show(1, &[], &[], &mut [], &mut []);
+fn show_rooms(rt: &impl Print) -> io::Result<()> {
+    show(rt, 2, &[1, 1], &[1, 1], &mut [7; 2], &mut [7; 2])?;
+    show_a(rt, &mut [7; 1])?;
+    show_a(rt, &mut [7; 2])?;
+    show_a(rt, &mut [7; 3])?;
+    show(rt, 1, &[], &[], &mut [], &mut [])
 }
 
-fn show_a(bitmap: &mut [u8]) {
-    show(2, &[0, 1, 2, 3], &[1, 0, 3, 3], &mut [7; 4], bitmap);
+fn show_a(rt: &impl Print, bitmap: &mut [u8]) -> io::Result<()> {
+    show(rt, 2, &[0, 1, 2, 3], &[1, 0, 3, 3], &mut [7; 4], bitmap)
 }
 
-fn show_full(height: u32, width: u32, rows: &mut [u32], columns: &mut [u32])
-    requires { 1 ≤ width }
+// All the cells of a board of a width.
+fn show_full<const CELLS: usize>(rt: &impl Print, height: u32, width: u32) -> io::Result<()>
+    requires { (1 ≤ width) × (CELLS < 65536) }
 {
-    lists::grid(rows, 65536, width, 0, false);
-    lists::grid(columns, 65536, width, 0, true);
-    show(height, rows, columns, &mut [7; 1024], &mut [7; 200]);
+    let mut rows = [0; CELLS];
+    let mut columns = [0; CELLS];
+    lists::grid(&mut rows, &mut columns, 65536, width, 0);
+    show(rt, height, &rows, &columns, &mut [7; 1024], &mut [7; 200])
 }
 
 // Full boards.
-fn show_fulls() {
-    show_full(1, 2, &mut [0; 4], &mut [0; 4]);
-    show_full(2, 4, &mut [0; 16], &mut [0; 16]);
-    show_full(3, 8, &mut [0; 64], &mut [0; 64]);
-    show_full(4, 16, &mut [0; 256], &mut [0; 256]);
-    show_full(5, 32, &mut [0; 1024], &mut [0; 1024]);
+fn show_fulls(rt: &impl Print) -> io::Result<()> {
+    show_full::<4>(rt, 1, 2)?;
+    show_full::<16>(rt, 2, 4)?;
+    show_full::<64>(rt, 3, 8)?;
+    show_full::<256>(rt, 4, 16)?;
+    show_full::<1024>(rt, 5, 32)
 }
 
-fn show_sixteenths(
-    rows: &mut [u32],
-    columns: &mut [u32],
+// So many cells, 2^step apart and again from the first after a period, with so much room.
+fn show_sixteenths<const CELLS: usize, const WORK: usize, const BITMAP: usize>(
+    rt: &impl Print,
     period: usize,
     step: u32,
-    work: &mut [u32],
-    bitmap: &mut [u8],
-)
-    requires { (1 ≤ period) × (period ≤ 65536) × (step < 32) }
+) -> io::Result<()>
+    requires lines { (1 ≤ period) × (period ≤ 65536) × (step < 32) }
+    requires small { (CELLS < 65536) × (WORK < 65536) × (BITMAP < 65536) }
 {
-    lists::grid(rows, period, 64, step, false);
-    lists::grid(columns, period, 64, step, true);
-    show(10, rows, columns, work, bitmap);
+    let mut rows = [0; CELLS];
+    let mut columns = [0; CELLS];
+    lists::grid(&mut rows, &mut columns, period, 64, step);
+    show(rt, 10, &rows, &columns, &mut [7; WORK], &mut [7; BITMAP])
 }
 
 // The limits: 4,096 joints far apart need 8,875 bytes.
-fn show_limits() {
-    show_sixteenths(
-        &mut [0; 4096],
-        &mut [0; 4096],
-        4096,
-        4,
-        &mut [7; 4096],
-        &mut [7; 8875],
-    );
-    show_sixteenths(
-        &mut [0; 4096],
-        &mut [0; 4096],
-        4096,
-        4,
-        &mut [7; 4096],
-        &mut [7; 8874],
-    );
-    show_sixteenths(
-        &mut [0; 4096],
-        &mut [0; 4096],
-        4096,
-        4,
-        &mut [7; 4095],
-        &mut [7; 8875],
-    );
+fn show_limits(rt: &impl Print) -> io::Result<()> {
+    show_sixteenths::<4096, 4096, 8875>(rt, 4096, 4)?;
+    show_sixteenths::<4096, 4096, 8874>(rt, 4096, 4)?;
+    show_sixteenths::<4096, 4095, 8875>(rt, 4096, 4)
 }
 
 // Given twice they are no more; one more is too many, which comes after the work room.
-fn show_more() {
-    show_sixteenths(
-        &mut [0; 8192],
-        &mut [0; 8192],
-        4096,
-        4,
-        &mut [7; 8192],
-        &mut [7; 9000],
-    );
-    show_sixteenths(
-        &mut [0; 4097],
-        &mut [0; 4097],
-        4097,
-        3,
-        &mut [7; 4097],
-        &mut [7; 9000],
-    );
-    show_sixteenths(
-        &mut [0; 4097],
-        &mut [0; 4097],
-        4097,
-        3,
-        &mut [7; 4096],
-        &mut [7; 9000],
-    );
+fn show_more(rt: &impl Print) -> io::Result<()> {
+    show_sixteenths::<8192, 8192, 9000>(rt, 4096, 4)?;
+    show_sixteenths::<4097, 4097, 9000>(rt, 4097, 3)?;
+    show_sixteenths::<4097, 4096, 9000>(rt, 4097, 3)
 }
 
-fn show_scattered(height: u32, seed: u32, rows: &mut [u32], columns: &mut [u32])
-    requires { (height ≤ 31) × (seed < 1000) }
+// So many cells at random.
+fn show_scattered<const CELLS: usize>(rt: &impl Print, height: u32, seed: u32) -> io::Result<()>
+    requires { (height ≤ 31) × (seed < 1000) × (CELLS < 65536) }
 {
-    lists::scatter(rows, height, seed);
-    lists::scatter(columns, height, seed + 5000);
-    show(height, rows, columns, &mut [7; 1500], &mut [7; 5000]);
+    let mut rows = [0; CELLS];
+    let mut columns = [0; CELLS];
+    lists::scatter(&mut rows, height, seed);
+    lists::scatter(&mut columns, height, seed + 5000);
+    show(rt, height, &rows, &columns, &mut [7; 1500], &mut [7; 5000])
 }
 
 // Cells at random, some of them more than once.
-fn show_three(height: u32)
-    requires { height ≤ 31 }
-{
-    show_scattered(height, height, &mut [0; 3], &mut [0; 3]);
-    show_scattered(height, height + 20, &mut [0; 40], &mut [0; 40]);
-    show_scattered(height, height + 40, &mut [0; 1500], &mut [0; 1500]);
-}
-
-fn show_random() {
+fn show_random(rt: &impl Print) -> io::Result<()> {
     for height in 1..11 {
-        show_three(height);
+        show_scattered::<3>(rt, height, height)?;
+        show_scattered::<40>(rt, height, height + 20)?;
+        show_scattered::<1500>(rt, height, height + 40)?;
     }
+    Ok(())
 }
 
-fn main() {
-    show_orders();
-    show_sets();
-    show_nothing();
-    show_lengths();
-    show_cells();
-    show_rooms();
-    show_fulls();
-    show_limits();
-    show_more();
-    show_random();
+fn main(rt: HostRuntime) -> io::Result<()> {
+    show_orders(&rt)?;
+    show_sets(&rt)?;
+    show_nothing(&rt)?;
+    show_lengths(&rt)?;
+    show_cells(&rt)?;
+    show_rooms(&rt)?;
+    show_fulls(&rt)?;
+    show_limits(&rt)?;
+    show_more(&rt)?;
+    show_random(&rt)
 }

@@ -53,12 +53,12 @@ pub(crate) fn gap(place: i32, lo: u32, hi: u32) -> i32
     let first = lo as i32;
     let last = hi as i32;
     if place < first {
-        return first - place;
+        first - place
+    } else if last < place {
+        last - place
+    } else {
+        0
     }
-    if last < place {
-        return last - place;
-    }
-    0
 }
 
 // The square of a gap.
@@ -97,18 +97,12 @@ pub fn near(row: i32, col: i32, corner_row: u32, corner_col: u32, side: u32) -> 
 fn in_range(z: i32) -> bool
     ensures { result ≡ leb (nat_abs z) max_place }
 {
-    if z < -MAX_PLACE {
-        return false;
-    }
-    z <= MAX_PLACE
+    (-MAX_PLACE..=MAX_PLACE).contains(&z)
 }
 
 // Whether a question may name this place.
 pub fn is_named(p: Place) -> bool
     ensures { result ≡ in_range p }
 {
-    if in_range(p.row) {
-        return in_range(p.column);
-    }
-    false
+    in_range(p.row) && in_range(p.column)
 }

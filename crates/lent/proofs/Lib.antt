@@ -1,2 +1,3 @@
 pub mod Clearing
+pub mod References
 pub mod Determined

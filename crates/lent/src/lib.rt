@@ -3,38 +3,51 @@
 
 ghost use Rattle.std.specs.Prelude.{◌≡◌, length, replicate};
 
-// A list of bytes, all zeros.
-pub fn clear_bytes(bytes: &mut [u8])
-    ensures { bytes.new ≡ replicate (length bytes.old) 0 }
-{
-    for i in 0..bytes.len() {
-        bytes[i] = 0;
+// A type of numbers, and its zero.
+pub trait Zero: Copy {
+    ghost zero: { Self };
+
+    fn zero() -> Self
+        ensures { result ≡ zero };
+}
+
+impl Zero for u8 {
+    ghost zero = { 0 };
+
+    fn zero() -> u8 {
+        0
     }
 }
 
-// A list of 16-bit numbers, all zeros.
-pub fn clear_shorts(shorts: &mut [u16])
-    ensures { shorts.new ≡ replicate (length shorts.old) 0 }
-{
-    for i in 0..shorts.len() {
-        shorts[i] = 0;
+impl Zero for u16 {
+    ghost zero = { 0 };
+
+    fn zero() -> u16 {
+        0
     }
 }
 
-// A list of 32-bit numbers, all zeros.
-pub fn clear_words(words: &mut [u32])
-    ensures { words.new ≡ replicate (length words.old) 0 }
-{
-    for i in 0..words.len() {
-        words[i] = 0;
+impl Zero for u32 {
+    ghost zero = { 0 };
+
+    fn zero() -> u32 {
+        0
     }
 }
 
-// A list of 64-bit numbers, all zeros.
-pub fn clear_longs(longs: &mut [u64])
-    ensures { longs.new ≡ replicate (length longs.old) 0 }
+impl Zero for u64 {
+    ghost zero = { 0 };
+
+    fn zero() -> u64 {
+        0
+    }
+}
+
+// A list of numbers, all zeros.
+pub fn clear<T: Zero>(list: &mut [T])
+    ensures { list.new ≡ replicate (length list.old) T.zero }
 {
-    for i in 0..longs.len() {
-        longs[i] = 0;
+    for place in list {
+        *place = T::zero();
     }
 }

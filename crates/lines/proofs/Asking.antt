@@ -9,10 +9,12 @@ use Rattle.search.specs.Keys.{distance_of}
 use Rattle.nearest.specs.Answers.{Handed}
 use Rattle.seek.specs.Step.{handed_in}
 use Rattle.nearest.proofs.Answering.{length_handed, handed_at}
-use Rattle.text.specs.Text.{bytes_of, text_of, Put}
+use Rattle.text.specs.declared.page.Page.{Page}
+use Rattle.text.specs.Text.{bytes_of, text_of}
+use Rattle.text.specs.Page.{Puts}
 use Rattle.text.specs.Lines.{ask_line, opened_line}
 use Rattle.lines.specs.Report.{key_line, found_lines}
-use Rattle.text.proofs.Putting.{put_then}
+use Rattle.text.proofs.Paging.{puts_then}
 
 -- as many lines as joints
 pub keys_length : (n : ℕ) (keys : List ℕ) → length (map key_line (handed_in n keys)) ≡ n
@@ -29,9 +31,9 @@ pub handed_small : (n : ℕ) (keys : List ℕ) → Handed n keys → (i : ℕ) �
 handed_small n keys h i j = let lt : i < n = omega (arith, length_handed n keys) in rw (handed_at n keys i lt) (h.small i lt)
 
 -- the three parts of a question's lines
-pub found_put : (k n m : ℕ) (found opened : List ℕ) {a b r : ℕ} {was one two is : List ℕ} → n ≡ length found → m ≡ length opened
-    → Put (bytes_of (ask_line k n m)) 0 was a one → Put (text_of (map key_line found)) a one b two → Put (bytes_of (opened_line opened)) b two r is
-    → Put (text_of (found_lines k found opened)) 0 was r is
+pub found_puts : (k n m : ℕ) (found opened : List ℕ) {was one two is : Page} → n ≡ length found → m ≡ length opened
+    → Puts (bytes_of (ask_line k n m)) was one → Puts (text_of (map key_line found)) one two → Puts (bytes_of (opened_line opened)) two is
+    → Puts (text_of (found_lines k found opened)) was is
 unfolding found_lines text_of flat_map
-found_put k n m found opened e f p q s =
-    rw (flat_map-append bytes_of (map key_line found) (opened_line opened ∷ []), append-nil (bytes_of (opened_line opened)), ← e, ← f) (put_then p (put_then q s))
+found_puts k n m found opened e f p q s =
+    rw (flat_map-append bytes_of (map key_line found) (opened_line opened ∷ []), append-nil (bytes_of (opened_line opened)), ← e, ← f) (puts_then p (puts_then q s))

@@ -7,3 +7,4 @@ pub mod Chunks
 pub mod Enough
 pub mod Desk
 pub mod Determined
+pub mod Keeping

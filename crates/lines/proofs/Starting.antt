@@ -19,10 +19,11 @@ use Rattle.records.specs.Kinds.{stage_after}
 use Rattle.records.specs.Records.{record_at, kind_in, next_after}
 use Rattle.sheet.specs.Sheet.{Verdict, Accepted, RefusedAt, offset, ◌onward◌, height_after, with_rest, records, sheet_of, max_sheet, max_records, max_bytes, height_in, cells_in}
 use Rattle.sheet.specs.Promise.{board_of, read_of, bitmap_in, Promise}
+use Rattle.std.specs.Prelude.{Result, Some, None}
 use Rattle.sheet.specs.declared.Sheeted.{Sheeted}
+use Rattle.sheet.specs.declared.RefusedAt.{RefusedAt as TurnedAt}
 use Rattle.sheet.proofs.Shape.{was_passed}
 use Rattle.sheet.proofs.Served.{served_board}
-use Rattle.lines.specs.declared.start.Begun.TheVariants.{Board, Refused as NotBegun}
 use Rattle.text.specs.Text.{bytes_of, Put}
 use Rattle.text.specs.Lines.{board_line, refused_line}
 use Rattle.lines.specs.Start.{told_of, Started}
@@ -74,14 +75,14 @@ sheet_low sheet work room =
     let built = codes_built_of (height_in 0 rs) (map (code_of (height_in 0 rs)) (cells_in rs)) room in
     onward_low max_sheet (offset 0 built) _ (offset_low max_sheet 0 built (omega arith)) λ y g. omega arith
 
-module _ (sheet work bitmap out : List ℕ) (sheeted : Sheeted) (work' bitmap' out' : List ℕ) (end : ℕ) (kept : Promise sheet work bitmap sheeted work' bitmap') where
+module _ (sheet work bitmap out : List ℕ) (sheeted : Result Sheeted TurnedAt) (work' bitmap' out' : List ℕ) (end : ℕ) (kept : Promise sheet work bitmap sheeted work' bitmap') where
   -- the line of an accepted sheet
   pub started : (h j b l q : ℕ) → read_of sheet (length work) (length bitmap) ≡ Accepted (h ∷ j ∷ b ∷ l ∷ q ∷ []) → Put (bytes_of (board_line h j b)) 0 out end out'
-      → Started sheet work bitmap out (Board h l q end) work' bitmap' out'
+      → Started sheet work bitmap out (record { board = Some (record { height = h; length = l; requests = q }); end = end }) work' bitmap' out'
   started h j b l q e p = record { text = rw e p; told = rw e; work_left = kept.work_left; bitmap_left = kept.bitmap_left }
 
   -- the line of a refused one
-  pub not_started : (n at : ℕ) → read_of sheet (length work) (length bitmap) ≡ RefusedAt n at → Put (bytes_of (refused_line n at)) 0 out end out' → Started sheet work bitmap out (NotBegun end) work' bitmap' out'
+  pub not_started : (n at : ℕ) → read_of sheet (length work) (length bitmap) ≡ RefusedAt n at → Put (bytes_of (refused_line n at)) 0 out end out' → Started sheet work bitmap out (record { board = None; end = end }) work' bitmap' out'
   not_started n at e p = record { text = rw e p; told = rw e; work_left = kept.work_left; bitmap_left = kept.bitmap_left }
 
 -- what was told is of a sheet that was served
@@ -92,7 +93,7 @@ was_told (RefusedAt n at) h l q e go = let z : ◌≡◌ {A = ℕ} 0 1 = cc in a
 
 -- what is begun with the program's room: its board, whose bytes are the first of the bitmap's list, and the offset of its first record after the joints
 pub started_board : (sheet work bitmap out : List ℕ) (h l q end : ℕ) (work' bitmap' out' : List ℕ) → length work ≡ max_records → length bitmap ≡ max_bytes
-    → Started sheet work bitmap out (Board h l q end) work' bitmap' out' → BoardIn sheet h (take l bitmap') × (q ≡ first_request sheet) × (l ≤ length bitmap')
+    → Started sheet work bitmap out (record { board = Some (record { height = h; length = l; requests = q }); end = end }) work' bitmap' out' → BoardIn sheet h (take l bitmap') × (q ≡ first_request sheet) × (l ≤ length bitmap')
 unfolding left_in bitmap_in
 started_board sheet work bitmap out h l q end work' bitmap' out' wide long s =
     was_told (read_of sheet max_records max_bytes) h l q (rw (wide, long) at s.told) λ served reads high size there.

@@ -1,3 +1,4 @@
+pub mod Lists
 pub mod Report
 pub mod Requests
 pub mod Start

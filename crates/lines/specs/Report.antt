@@ -1,17 +1,25 @@
 -- The report of a joint sheet: the lines of each record, in the order of the sheet.
-use Rattle.std.specs.Prelude.{ℕ, ◌≡◌, List, [], ◌∷◌, ◌++◌, map, length, replicate}
+use Rattle.std.specs.Prelude.{ℕ, ◌≡◌, ◌+◌, ◌≤◌, List, [], ◌∷◌, ◌++◌, map, length, take, replicate, Result, Ok, Err}
 use Rattle.refusal.specs.Answer.{Answer, Served, Refused, left_in}
 use Rattle.board.specs.Levels.{Box}
 use Rattle.window.specs.Window as window
 use Rattle.search.specs.Keys.{row_of, col_of, distance_of}
-use Rattle.nearest.specs.declared.ask.Nearest.{Nearest}
-use Rattle.nearest.specs.declared.ask.Nearest.TheVariants.{Found, Refused as Turned}
-use Rattle.text.specs.Text.{Line, text_of, Put}
+use Rattle.refusal.specs.declared.Refusal.{Refusal}
+use Rattle.seek.specs.declared.answered.Found.{Found}
+use Rattle.text.specs.declared.page.Page.{Page}
+use Rattle.text.specs.Text.{Line, text_of}
+use Rattle.text.specs.Page.{Puts}
 use Rattle.text.specs.Lines.{ask_line, at_line, opened_line, win_line, in_lines, no_line}
+use Rattle.lines.specs.declared.lists.Lists.{Lists}
+use Rattle.lines.specs.Lists.{Kept}
 
 -- enough bytes for the lines of any record
 abbrev pub room : ℕ
 room = 131072
+
+-- a page has so much left
+abbrev pub Roomy : Page → Type 0
+Roomy page = page.at + room ≤ length page.out.now
 
 -- the program's places for the joints found and for the trail
 abbrev pub max_answers : ℕ
@@ -24,6 +32,16 @@ max_trail = 4096
 unfoldable pub window_lines : Answer ℕ → List Box → List Line
 window_lines (Served n) cells = win_line n ∷ in_lines (map window.row_of cells) (map window.column_of cells)
 window_lines (Refused n) cells = no_line n ∷ []
+
+-- the same by what is left in the two lists
+unfoldable pub shown_lines : Answer ℕ → List ℕ → List ℕ → List Line
+shown_lines (Served n) rows columns = win_line n ∷ in_lines (take n rows) (take n columns)
+shown_lines (Refused n) rows columns = no_line n ∷ []
+
+-- the cells of an answer: none after a refusal
+abbrev pub cells_in : Result ℕ Refusal → ℕ
+cells_in (Ok count) = count
+cells_in (Err refusal) = 0
 
 -- the line of a joint found, by its key
 abbrev pub key_line : ℕ → Line
@@ -38,20 +56,27 @@ unfoldable pub ask_lines : Answer (List ℕ) → ℕ → List ℕ → List ℕ �
 ask_lines (Served x) k found opened = found_lines k found opened
 ask_lines (Refused n) k found opened = no_line n ∷ []
 
--- a window's lines are put at the beginning of a list, and this is left in the two lists of rows and columns
-pub record WindowPut (answer : Answer ℕ) (cells : List Box) (out : List ℕ) (r : ℕ) (out' rows rows' columns columns' : List ℕ) : Type 0 where
-  pub text : Put (text_of (window_lines answer cells)) 0 out r out'
-  pub rows_left : rows' ≡ left_in answer (map window.row_of cells) (length rows)
-  pub columns_left : columns' ≡ left_in answer (map window.column_of cells) (length columns)
+-- a window's lines are put on a page, and this is left in the lists: its rows and columns, and all else as it was
+pub record WindowPut (answer : Answer ℕ) (cells : List Box) (page page' : Page) (lists lists' : Lists) : Type 0 where
+  pub text : Puts (text_of (window_lines answer cells)) page page'
+  pub kept : Kept lists lists'
+  pub rows_left : lists'.rows.now ≡ left_in answer (map window.row_of cells) (length lists.rows.now)
+  pub columns_left : lists'.columns.now ≡ left_in answer (map window.column_of cells) (length lists.columns.now)
+  pub keys_stay : lists'.keys.now ≡ lists.keys.now
+  pub corners_stay : lists'.corners.now ≡ lists.corners.now
+  pub trail_stays : lists'.trail.now ≡ lists.trail.now
 
 -- the boxes of an answer: none after a refusal
-abbrev pub boxes_in : Nearest → ℕ
-boxes_in (Found joints boxes) = boxes
-boxes_in (Turned refusal) = 0
+abbrev pub boxes_in : Result Found Refusal → ℕ
+boxes_in (Ok found) = found.boxes
+boxes_in (Err refusal) = 0
 
--- a question's lines are put at the beginning of a list; the work lists are left with zeros, and the trail's list with the trail
-pub record AskPut (answer : Answer (List ℕ)) (k : ℕ) (found opened : List ℕ) (out : List ℕ) (r : ℕ) (out' keys keys' corners corners' trail trail' : List ℕ) : Type 0 where
-  pub text : Put (text_of (ask_lines answer k found opened)) 0 out r out'
-  pub keys_left : keys' ≡ replicate (length keys) 0
-  pub corners_left : corners' ≡ replicate (length corners) 0
-  pub trail_left : trail' ≡ left_in answer opened (length trail)
+-- a question's lines are put on a page; the work lists are left with zeros, the trail's list with the trail, and all else as it was
+pub record AskPut (answer : Answer (List ℕ)) (k : ℕ) (found opened : List ℕ) (page page' : Page) (lists lists' : Lists) : Type 0 where
+  pub text : Puts (text_of (ask_lines answer k found opened)) page page'
+  pub kept : Kept lists lists'
+  pub keys_left : lists'.keys.now ≡ replicate (length lists.keys.now) 0
+  pub corners_left : lists'.corners.now ≡ replicate (length lists.corners.now) 0
+  pub trail_left : lists'.trail.now ≡ left_in answer opened (length lists.trail.now)
+  pub rows_stay : lists'.rows.now ≡ lists.rows.now
+  pub columns_stay : lists'.columns.now ≡ lists.columns.now

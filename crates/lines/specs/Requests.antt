@@ -10,8 +10,11 @@ use Rattle.records.specs.declared.record.Record.{Record}
 use Rattle.records.specs.declared.record.Record.TheVariants.{Board, Joint, Question, Window, End}
 use Rattle.records.specs.declared.kind.Stage.TheVariants.{Requests}
 use Rattle.records.specs.Records.{record_at, next_after}
+use Rattle.lines.specs.declared.lists.Lists.{Lists}
 use Rattle.lines.specs.declared.request.Chunk.{Chunk}
+use Rattle.text.specs.declared.page.Page.{Page}
 use Rattle.text.specs.Text.{Line, text_of, Put}
+use Rattle.text.specs.Page.{Puts}
 use Rattle.text.specs.Lines.{end_line}
 use Rattle.lines.specs.Report.{max_answers, window_lines, ask_lines}
 
@@ -30,6 +33,9 @@ desk_of directory rows columns keys corners trail = record {
   columns = length columns;
   rooms = record { answers = max_answers; keys = length keys; corners = length corners; trail = length trail };
 }
+
+abbrev pub desk_with : List ℕ → Lists → Desk
+desk_with directory lists = desk_of directory lists.rows.now lists.columns.now lists.keys.now lists.corners.now lists.trail.now
 
 -- a question's lines
 unfoldable pub question_lines : Desk → ℕ → List ℕ → ℕ → Place → List Line
@@ -52,6 +58,11 @@ read_lines desk h bytes (Refused n) = []
 unfoldable pub next_in : List ℕ → ℕ → Answer Record → ℕ
 next_in sheet at (Served r) = next_after at r
 next_in sheet at (Refused n) = length sheet
+
+-- the lines of the record at a place are put on a page, and this is the place of the next
+pub record PageChunked (desk : Desk) (h : ℕ) (bytes sheet : List ℕ) (at : ℕ) (page page' : Page) (r : ℕ) : Type 0 where
+  pub text : Puts (text_of (read_lines desk h bytes (record_at Requests h sheet at))) page page'
+  pub next : r ≡ next_in sheet at (record_at Requests h sheet at)
 
 -- the lines of the record at a place are put at the beginning of a list
 pub record Chunked (desk : Desk) (h : ℕ) (bytes sheet : List ℕ) (at : ℕ) (out : List ℕ) (r : Chunk) (out' : List ℕ) : Type 0 where

@@ -2,6 +2,7 @@
 use Rattle.std.specs.Prelude.{ℕ, zero, suc, cond, ◌≡◌, length, get_or, ltb}
 use mathlib.Core.List.{List, [], ◌∷◌, ◌++◌, flat_map}
 use Rattle.bitmap.specs.Directory.{directory_of}
+use Rattle.board.specs.declared.Board.{Board}
 use Rattle.board.specs.Limits.{max_joints}
 use Rattle.records.specs.declared.kind.Stage.TheVariants.{Requests}
 use Rattle.records.specs.declared.record.Record.{Record}
@@ -9,6 +10,7 @@ use Rattle.records.specs.Records.{record_at}
 use Rattle.sheet.specs.Sheet.{Verdict, Accepted, RefusedAt, max_records, max_bytes, sheet_of, height_in, requests_in}
 use Rattle.sheet.specs.Promise.{read_of, bitmap_in}
 use Rattle.text.specs.Text.{Line, text_of}
+use Rattle.lines.specs.declared.lists.Lists.{Lists}
 use Rattle.lines.specs.Report.{max_answers, max_trail}
 use Rattle.lines.specs.Requests.{Desk, desk_of, request_lines, read_lines, next_in}
 use Rattle.lines.specs.Start.{first_line, told_of}
@@ -26,6 +28,14 @@ report_desk bytes = record {
   rooms = record { answers = max_answers; keys = max_joints; corners = max_joints; trail = max_trail };
 }
 
+-- lists as long as the program's
+pub record RoomyLists (lists : Lists) : Type 0 where
+  pub rows : length lists.rows.now ≡ max_joints
+  pub columns : length lists.columns.now ≡ max_joints
+  pub keys : length lists.keys.now ≡ max_joints
+  pub corners : length lists.corners.now ≡ max_joints
+  pub trail : length lists.trail.now ≡ max_trail
+
 -- the board of a sheet that is served with the program's room, and the bytes of its bitmap
 pub record BoardIn (sheet : List ℕ) (height : ℕ) (bytes : List ℕ) : Type 0 where
   pub served : List ℕ
@@ -37,6 +47,10 @@ pub record BoardIn (sheet : List ℕ) (height : ℕ) (bytes : List ℕ) : Type 0
 pub record OnDesk (sheet : List ℕ) (height : ℕ) (bytes directory rows columns keys corners trail : List ℕ) : Type 0 where
   pub board : BoardIn sheet height bytes
   pub desk : desk_of directory rows columns keys corners trail ≡ report_desk bytes
+
+abbrev pub Laid : List ℕ → Board → Lists → Type 0
+Laid sheet board lists =
+    OnDesk sheet board.height board.bytes.now board.directory.now lists.rows.now lists.columns.now lists.keys.now lists.corners.now lists.trail.now
 
 -- the offset of its first record after the joints
 abbrev pub first_request : List ℕ → ℕ

@@ -1,17 +1,21 @@
 // The lines of the record at a place of a sheet, one record after the other.
-ghost use Rattle.std.specs.Prelude.{◌≡◌, ◌<◌, ◌≤◌, length, replicate};
+ghost use Rattle.std.specs.Prelude.{◌≡◌, ◌<◌, ◌≤◌, length};
 ghost use Rattle.board.specs.Limits.{max_height, max_joints};
-ghost use Rattle.text.specs.Text.{text_of, Put};
-ghost use Rattle.lines.specs.Report.{room, max_trail};
-ghost use Rattle.lines.specs.Requests.{desk_of, request_lines, Chunked};
-ghost use Rattle.lines.specs.Whole.{OnDesk, report_desk};
+ghost use Rattle.text.specs.Text.{text_of};
+ghost use Rattle.text.specs.Page.{Puts};
+ghost use Rattle.lines.specs.Report.{room, Roomy, max_trail};
+ghost use Rattle.lines.specs.Lists.{Kept, Cleared};
+ghost use Rattle.lines.specs.Requests.{desk_with, request_lines, PageChunked, Chunked};
+ghost use Rattle.lines.specs.Whole.{Laid, report_desk};
 
+use crate::lists::Lists;
 use crate::question::ask_lines;
 use crate::record::window_lines;
+use board::Board;
 use keys::distance::Place;
 use records::kind::Stage;
-use records::record::{Record, Recorded, record_at};
-use text::line::put_end;
+use records::record::{Record, record_at};
+use text::Page;
 
 // How many bytes of lines there are, and the offset of the next record.
 #[derive(Clone, Copy)]
@@ -20,112 +24,58 @@ pub struct Chunk {
     pub next: usize,
 }
 
-// The lines of a record; how many bytes they have.
-fn request_lines(
-    height: u32,
-    bytes: &[u8],
-    directory: &[u16],
-    request: Record,
-    rows: &mut [u32],
-    columns: &mut [u32],
-    keys: &mut [u64],
-    corners: &mut [u32],
-    trail: &mut [u32],
-    out: &mut [u8],
-) -> usize
-    requires { (length rows.old ≤ max_joints) × (length trail.old ≤ max_trail) × (room ≤ length out.old) }
-    ensures { Put (text_of (request_lines (desk_of directory.now rows.old columns.old keys.old corners.old trail.old) height bytes.now request)) 0 out.old result out.new }
+// The lines of a record.
+fn request_lines(board: Board, request: Record, lists: &mut Lists, page: &mut Page)
+    requires { (length lists.old.rows.now ≤ max_joints) × (length lists.old.trail.now ≤ max_trail) × Roomy page.old }
+    ensures { Puts (text_of (request_lines (desk_with board.entry.directory.now lists.old) board.entry.height board.entry.bytes.now request)) page.old page.new × Kept lists.old lists.new }
 {
     match request {
-        Record::Board { .. } => 0,
-        Record::Joint { .. } => 0,
-        Record::Question { k, row, column } => ask_lines(
-            height,
-            bytes,
-            directory,
-            Place { row, column },
-            k,
-            keys,
-            corners,
-            trail,
-            out,
-        ),
+        Record::Board { .. } | Record::Joint { .. } => {}
+        Record::Question { k, row, column } => {
+            ask_lines(board, Place { row, column }, k, lists, page);
+        }
         Record::Window {
             lowest_row,
             highest_row,
             lowest_column,
             highest_column,
         } => window_lines(
-            height,
-            bytes,
-            directory,
+            board,
             lowest_row,
             highest_row,
             lowest_column,
             highest_column,
-            rows,
-            columns,
-            out,
+            lists,
+            page,
         ),
-        Record::End => put_end(out, 0),
+        Record::End => page.put_end(),
     }
 }
 
-// The lines of the record at a place of a sheet, and the place of the next.
-fn chunk_at(
-    height: u32,
-    bytes: &[u8],
-    directory: &[u16],
-    sheet: &[u8],
-    at: usize,
-    rows: &mut [u32],
-    columns: &mut [u32],
-    keys: &mut [u64],
-    corners: &mut [u32],
-    trail: &mut [u32],
-    out: &mut [u8],
-) -> Chunk
-    requires { (at < length sheet.now) × (height ≤ max_height) × (length rows.old ≤ max_joints) × (length trail.old ≤ max_trail) × (room ≤ length out.old) }
-    ensures { Chunked (desk_of directory.now rows.old columns.old keys.old corners.old trail.old) height bytes.now sheet.now at out.old result out.new }
+// The lines of the record at a place of a sheet; the place of the next.
+fn chunk_at(board: Board, sheet: &[u8], at: usize, lists: &mut Lists, page: &mut Page) -> usize
+    requires { (at < length sheet.now) × (board.height ≤ max_height) × (length lists.old.rows.now ≤ max_joints) × (length lists.old.trail.now ≤ max_trail) × Roomy page.old }
+    ensures { PageChunked (desk_with board.entry.directory.now lists.old) board.entry.height board.entry.bytes.now sheet.now at page.old page.new result × Kept lists.old lists.new }
 {
-    match record_at(sheet, at, Stage::Requests, height) {
-        Recorded::Record { record, next } => {
-            let length = request_lines(
-                height, bytes, directory, record, rows, columns, keys, corners, trail, out,
-            );
-            Chunk { length, next }
+    match record_at(sheet, at, Stage::Requests, board.height) {
+        Ok(found) => {
+            request_lines(board, found.record, lists, page);
+            found.next
         }
-        Recorded::Refused(_) => Chunk {
-            length: 0,
-            next: sheet.len(),
-        },
+        Err(_) => sheet.len(),
     }
 }
 
 // The lines of the record at a place of a sheet, for the board of the sheet on the program's desk. The lists lent for the asking are left with zeros.
-pub fn next_lines(
-    height: u32,
-    bytes: &[u8],
-    directory: &[u16],
-    sheet: &[u8],
-    at: usize,
-    rows: &mut [u32],
-    columns: &mut [u32],
-    keys: &mut [u64],
-    corners: &mut [u32],
-    trail: &mut [u32],
-    out: &mut [u8],
-) -> Chunk
-    requires { OnDesk sheet.now height bytes.now directory.now rows.old columns.old keys.old corners.old trail.old × (at < length sheet.now) × (room ≤ length out.old) }
-    ensures { (Chunked (report_desk bytes.now) height bytes.now sheet.now at out.old result out.new) × (rows.new ≡ replicate (length rows.old) 0) × (columns.new ≡ replicate (length columns.old) 0) × (keys.new ≡ replicate (length keys.old) 0) × (corners.new ≡ replicate (length corners.old) 0) × (trail.new ≡ replicate (length trail.old) 0) }
+pub fn next_lines(board: Board, sheet: &[u8], at: usize, lists: &mut Lists, out: &mut [u8]) -> Chunk
+    requires { Laid sheet.now board lists.old × (at < length sheet.now) × (room ≤ length out.old) }
+    ensures { Chunked (report_desk board.entry.bytes.now) board.entry.height board.entry.bytes.now sheet.now at out.old result out.new × Cleared lists.old lists.new }
 {
-    let chunk = chunk_at(
-        height, bytes, directory, sheet, at, rows, columns, keys, corners, trail, out,
-    );
-    lent::clear_words(rows);
-    lent::clear_words(columns);
-    lent::clear_longs(keys);
-    lent::clear_words(corners);
-    lent::clear_words(trail);
-    chunk
+    let mut page = Page { out, at: 0 };
+    let next = chunk_at(board, sheet, at, lists, &mut page);
+    lists.clear();
+    Chunk {
+        length: page.at,
+        next,
+    }
 }

@@ -4,21 +4,21 @@ ghost use Rattle.lines.specs.Report.{room};
 ghost use Rattle.lines.specs.Start.{Started};
 ghost use Rattle.sheet.specs.Sheet.{max_records, max_bytes};
 
-use sheet::Sheeted;
-use text::line::{put_board, put_refused};
+use text::Page;
 
-// How many bytes the first line has; and of a board the height, the bitmap's length, and the offset of the first record after the joints.
+// Of a board the height, the bitmap's length, and the offset of the first record after the joints.
 #[derive(Clone, Copy)]
-pub enum Begun {
-    Board {
-        height: u32,
-        length: u32,
-        requests: usize,
-        end: usize,
-    },
-    Refused {
-        end: usize,
-    },
+pub struct BoardSize {
+    pub height: u32,
+    pub length: u32,
+    pub requests: usize,
+}
+
+// How many bytes the first line has; and the board, where the sheet is not refused.
+#[derive(Clone, Copy)]
+pub struct Begun {
+    pub board: Option<BoardSize>,
+    pub end: usize,
 }
 
 // Reads a sheet with the program's room, leaves its bitmap, and puts the first line.
@@ -26,25 +26,23 @@ pub fn first_line(sheet: &[u8], work: &mut [u32], bitmap: &mut [u8], out: &mut [
     requires { (length work.old ≡ max_records) × (length bitmap.old ≡ max_bytes) × (room ≤ length out.old) }
     ensures { Started sheet.now work.old bitmap.old out.old result work.new bitmap.new out.new }
 {
-    match sheet::read(sheet, work, bitmap) {
-        Sheeted::Board {
-            height,
-            joints,
-            boxes,
-            length,
-            requests,
-        } => {
-            let end = put_board(height, joints, boxes, out, 0);
-            Begun::Board {
-                height,
-                length,
-                requests,
-                end,
-            }
+    let mut page = Page { out, at: 0 };
+    let board = match sheet::read(sheet, work, bitmap) {
+        Ok(read) => {
+            page.put_board(read.height, read.joints, read.boxes);
+            Some(BoardSize {
+                height: read.height,
+                length: read.length,
+                requests: read.requests,
+            })
         }
-        Sheeted::Refused { refusal, offset } => {
-            let end = put_refused(refusal.number(), offset as u32, out, 0);
-            Begun::Refused { end }
+        Err(at) => {
+            page.put_refused(at.refusal.number(), at.offset as u32);
+            None
         }
+    };
+    Begun {
+        board,
+        end: page.at,
     }
 }

@@ -7,7 +7,6 @@ use native.Mathlib.Nat.{eq-or-lt_of_le}
 use native.Mathlib.Omega.{arith}
 use lib.ListN.{length, get_or, set, replicate, length-set, length-append, length-map, length-replicate, get_or-map, get_or-append, get_or-eq_default}
 use lib.Seq.{get_or-set_same, get_or-set_other, get_or_at, ext_get_or}
-use Rattle.search.specs.Keys.{row_of, col_of, distance_of}
 use Rattle.nearest.specs.declared.answer.Answer.{Answer}
 use Rattle.seek.specs.Step.{handed_in}
 use Rattle.nearest.specs.Answers.{zero_answer, answer_of, filled}
@@ -28,9 +27,9 @@ handed_at (suc m) keys i h =
     (λ (lt : i < m). get_or-append (handed_in m keys) (get_or keys (length keys - suc m) 0 ∷ []) 0 i (rw (length_handed m keys) lt) ∙ handed_at m keys i lt)
     (eq-or-lt_of_le {n = i} {m = m} (omega arith))
 
--- a record by its three numbers
-pub answer_is : (key row column distance : ℕ) → row ≡ row_of key → column ≡ col_of key → distance ≡ distance_of key → ◌≡◌ {A = Answer} (record { row = row; column = column; distance = distance }) (answer_of key)
-answer_is key row column distance r c d = λ i. record { row = r i; column = c i; distance = d i }
+-- no joint, by its three zeros
+pub answer_zero : {a : Answer} → a.row ≡ 0 → a.column ≡ 0 → a.distance ≡ 0 → a ≡ zero_answer
+answer_zero r c d = λ i. record { row = r i; column = c i; distance = d i }
 
 -- its record
 pub picked : (n : ℕ) (keys : List ℕ) (i : ℕ) → i < n → answer_of (get_or keys (length keys - suc i) 0) ≡ get_or (map answer_of (handed_in n keys)) i zero_answer

@@ -20,6 +20,7 @@ use Rattle.board.proofs.Valid.{Sound, served_valid}
 use Rattle.search.specs.Question.{answer_keys, trail}
 use Rattle.keys.specs.declared.distance.Place.{Place}
 use Rattle.keys.specs.Places.{place_of, in_range, Named}
+use Rattle.seek.specs.Told.{searched_of}
 use Rattle.nearest.specs.Promise.{max_wanted, Rooms, work_for, room_of, nearest_of}
 
 -- what is served is one thing
@@ -40,12 +41,11 @@ check_serves h bytes e =
 pub board_sound : (h : ℕ) (bytes : List ℕ) {x : List ℕ} → check_of h bytes ≡ Served x → Sound h bytes (length (joints h bytes)) (groups h bytes)
 board_sound h bytes e = served_valid h bytes (length (joints h bytes)) (groups h bytes) (e ∙ ap Served (check_serves h bytes e))
 
--- what passes is refused later or served; what does not is refused, whatever would be answered
-pub pass_refused : {A B : Type 0} (a : Answer A) (n : ℕ) (t : Bool) (q : Answer Bool) (rest : Answer B) {m : ℕ} → (a then n unless t then q) ≡ Refused m → (a then n unless t then q then rest) ≡ Refused m
-pass_refused (Served x) n true (Served y) rest e = absurd (not_both (sym e))
-pass_refused (Served x) n true (Refused m) rest e = let same = e in cc
-pass_refused (Served x) n false q rest e = cc
-pass_refused (Refused l) n t q rest e = cc
+-- tests, and then what is answered past them
+tests_first : {A B : Type 0} (a : Answer A) (n : ℕ) (t : Bool) (q : Answer Bool) (rest : Answer B) → ((a then n unless t then q) then rest) ≡ (a then n unless t then q then rest)
+tests_first (Served x) n true q rest = refl
+tests_first (Served x) n false q rest = refl
+tests_first (Refused l) n t q rest = refl
 
 -- it passed each
 pub record Passes {A : Type 0} (a : Answer A) (t : Bool) (q : Answer Bool) : Type 0 where
@@ -114,15 +114,7 @@ module _ (h : ℕ) (bytes d : List ℕ) (p : Place) (k : ℕ) (r : Rooms) where
       let eleven = passed 11 (leb (length (trail (place_of p) h bytes k)) r.trail) _ room.2 in
       (may board.1 six.0 room.1, cc eleven.1, cc eleven.1)
 
-  -- one that does not is refused by the first test that it fails
-  pub refused_before : {m : ℕ} → pass_of' ≡ Refused m → nearest_of h bytes d p k r ≡ Refused m
-  unfolding nearest_of
-  refused_before e = pass_refused (check_of h bytes) 6 (alike d (directory_of bytes)) (room_of p k (work_for h bytes) r) _ e
-
-  -- else it goes by the trail's room
-  pub goes_by : pass_of' ≡ Served true → nearest_of h bytes d p k r ≡
-      (11 unless leb (length (trail (place_of p) h bytes k)) r.trail then Served (length (answer_keys (place_of p) h bytes k) ∷ length (trail (place_of p) h bytes k) ∷ []))
-  unfolding nearest_of
-  goes_by e =
-      let q = pass_served (check_of h bytes) 6 (alike d (directory_of bytes)) (room_of p k (work_for h bytes) r) e in
-      rw (q.first, q.tested, q.asked) refl
+  -- the tests, and then the search
+  pub nearest_searched : nearest_of h bytes d p k r ≡ (pass_of' then searched_of h bytes p k r.trail)
+  unfolding nearest_of searched_of
+  nearest_searched = sym (tests_first (check_of h bytes) 6 (alike d (directory_of bytes)) (room_of p k (work_for h bytes) r) _)

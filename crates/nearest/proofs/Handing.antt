@@ -5,10 +5,7 @@ use mathlib.Core.List.{List, ◌++◌, reverse, reverse-reverse}
 use native.Mathlib.Omega.{arith}
 use lib.ListN.{length, get_or, drop, replicate, length-append, length-replicate, length-reverse, length-map}
 use lib.Seq.{drop_at}
-use Rattle.refusal.specs.Answer.{Refused}
-use Rattle.refusal.specs.Numbers.{number_of}
 use Rattle.refusal.specs.declared.Refusal.{Refusal}
-use Rattle.refusal.proofs.Answers.{left_refused}
 use Rattle.order.proofs.Bag.{each_get_d}
 use Rattle.board.specs.Limits.{max_height}
 use Rattle.board.specs.Levels.{joints}
@@ -18,8 +15,8 @@ use Rattle.search.proofs.PlainJoints.{answer_in}
 use Rattle.search.proofs.Plain.{answer_plain}
 use Rattle.search.proofs.Distances.{answer_near, answer_few}
 use Rattle.keys.specs.declared.distance.Place.{Place}
-use Rattle.nearest.specs.declared.ask.Nearest.{Nearest}
-use Rattle.nearest.specs.declared.ask.Nearest.TheVariants.{Found, Refused as Turned}
+use Rattle.std.specs.Prelude.{Result, Ok, Err}
+use Rattle.seek.specs.declared.answered.Found.{Found}
 use Rattle.keys.specs.Places.{place_of, Named}
 use Rattle.seek.specs.Step.{handed_in}
 use Rattle.seek.specs.Told.{found_in, handed_out}
@@ -64,29 +61,29 @@ handed_small p h bytes k {n} {keys} named low room many same =
     }
 
 -- what the lists of a question that is asked show: the joints found, each with its distance, as long as there were keys
-pub record Shows (h : ℕ) (bytes d : List ℕ) (p : Place) (k answers : ℕ) (keys corners trailList : List ℕ) (r : Nearest) (keys' : List ℕ) : Type 0 where
+pub record Shows (h : ℕ) (bytes d : List ℕ) (p : Place) (k answers : ℕ) (keys corners trailList : List ℕ) (r : Result Found Refusal) (keys' : List ℕ) : Type 0 where
   pub handed : Handed (joints_of r) keys'
   pub found : handed_in (joints_of r) keys' ≡ found_in (nearest_of h bytes d p k (rooms_of answers keys corners trailList)) (answer_keys (place_of p) h bytes k)
   pub fits : joints_of r ≤ answers
   pub keys_long : length keys' ≡ length keys
 
 module _ {h : ℕ} {bytes d : List ℕ} {p : Place} {k answers : ℕ} {keys corners trailList : List ℕ} where
-  pub asked_shows : {r : Nearest} {keys' corners' trail' : List ℕ} → Asked h bytes d p k answers keys corners trailList r keys' corners' trail' → Shows h bytes d p k answers keys corners trailList r keys'
+  pub asked_shows : {r : Result Found Refusal} {keys' corners' trail' : List ℕ} → Asked h bytes d p k answers keys corners trailList r keys' corners' trail' → Shows h bytes d p k answers keys corners trailList r keys'
   unfolding handed_in
-  asked_shows {r = Found j g} {keys'} s =
+  asked_shows {r = Ok it} {keys'} s =
       let e = sym s.number in
       let may = served_may h bytes d p k (rooms_of answers keys corners trailList) e in
       let room : length (answer_keys (place_of p) h bytes k) ≤ length keys = omega (arith, answer_joints p k may.0.ready, may.0.keys) in
       let left : keys' ≡ handed_out (answer_keys (place_of p) h bytes k) (length keys) = rw e at s.keys_left in
       let long : length keys' ≡ length keys = ap length left ∙ length_out (answer_keys (place_of p) h bytes k) (length keys) room in
-      let found : handed_in j keys' ≡ answer_keys (place_of p) h bytes k = rw (left, ← may.1) (handed_in_out (answer_keys (place_of p) h bytes k) (length keys) room) in
+      let found : handed_in it.joints keys' ≡ answer_keys (place_of p) h bytes k = rw (left, ← may.1) (handed_in_out (answer_keys (place_of p) h bytes k) (length keys) room) in
       record {
         handed = handed_small p h bytes k may.0.named may.0.ready.low (omega (arith, long, may.1)) (sym may.1) found;
         found = rw e found;
         fits = omega (arith, may.1, answer_few (place_of p) h bytes k, may.0.answers);
         keys_long = long;
       }
-  asked_shows {r = Turned f} {keys'} s =
+  asked_shows {r = Err f} {keys'} s =
       let e = sym s.number in
       let left : keys' ≡ replicate (length keys) 0 = rw e at s.keys_left ∙ none_out (length keys) in
       record {
@@ -94,18 +91,4 @@ module _ {h : ℕ} {bytes d : List ℕ} {p : Place} {k answers : ℕ} {keys corn
         found = rw e refl;
         fits = omega arith;
         keys_long = ap length left ∙ length-replicate {A = ℕ} (length keys) 0;
-      }
-
-  -- ---- a question that is asked
-
-  -- refused: nothing is handed out, and the lists are clear
-  pub asked_refused : {f : Refusal} {keys' corners' trail' : List ℕ} → nearest_of h bytes d p k (rooms_of answers keys corners trailList) ≡ Refused (number_of f)
-      → keys' ≡ replicate (length keys) 0 → corners' ≡ replicate (length corners) 0 → trail' ≡ replicate (length trailList) 0
-      → Asked h bytes d p k answers keys corners trailList (Turned f) keys' corners' trail'
-  asked_refused e none c l =
-      record {
-        number = sym e;
-        keys_left = rw e (none ∙ sym (none_out (length keys)));
-        corners_left = c;
-        trail_left = l ∙ left_refused _ _ (length trailList) (sym e);
       }

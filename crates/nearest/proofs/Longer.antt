@@ -9,39 +9,40 @@ use Rattle.refusal.specs.Answer.{left_in}
 use Rattle.search.specs.Question as question
 use Rattle.search.specs.Plain.{Starts}
 use Rattle.search.proofs.Longer.{starts_map, answer_starts, trail_starts}
-use Rattle.nearest.specs.declared.ask.Nearest.TheVariants.{Found}
+use Rattle.std.specs.Prelude.{Ok}
+use Rattle.seek.specs.declared.answered.Found.{Found}
 use Rattle.keys.specs.Places.{place_of}
 use Rattle.nearest.specs.Answers.{answer_of, filled}
 use Rattle.nearest.specs.Kept.{place_at, Lent, rooms, Kept}
 use Rattle.seek.proofs.Going.{ready_sound}
 use Rattle.nearest.proofs.Asks.{served_may}
 
-module _ {h : ℕ} {bytes d : List ℕ} {row column : ℤ} {k : ℕ} {was is : Lent} {j g : ℕ} (kept : Kept h bytes d row column k was (Found j g) is) where
+module _ {h : ℕ} {bytes d : List ℕ} {row column : ℤ} {k : ℕ} {was is : Lent} {found : Found} (kept : Kept h bytes d row column k was (Ok found) is) where
   -- the records found are those of the answer's keys
-  pub kept_answers : take j is.answers ≡ map answer_of (question.answer_keys (place_of (place_at row column)) h bytes k)
+  pub kept_answers : take found.joints is.answers ≡ map answer_of (question.answer_keys (place_of (place_at row column)) h bytes k)
   unfolding filled
   kept_answers =
       let e = sym kept.number in
       let may = served_may h bytes d (place_at row column) k (rooms was) e in
       let keys = question.answer_keys (place_of (place_at row column)) h bytes k in
-      ap (take j) (rw e at kept.answers) ∙ take_at (map answer_of keys) _ j (length-map keys answer_of ∙ may.1)
+      ap (take found.joints) (rw e at kept.answers) ∙ take_at (map answer_of keys) _ found.joints (length-map keys answer_of ∙ may.1)
 
   -- the boxes opened are the trail
-  pub kept_trail : take g is.trail ≡ question.trail (place_of (place_at row column)) h bytes k
+  pub kept_trail : take found.boxes is.trail ≡ question.trail (place_of (place_at row column)) h bytes k
   unfolding left_in
   kept_trail =
       let e = sym kept.number in
       let may = served_may h bytes d (place_at row column) k (rooms was) e in
-      ap (take g) (rw e at kept.trail) ∙ take_at (question.trail (place_of (place_at row column)) h bytes k) _ g may.2
+      ap (take found.boxes) (rw e at kept.trail) ∙ take_at (question.trail (place_of (place_at row column)) h bytes k) _ found.boxes may.2
 
 -- what a question found is the beginning of what another found
-pub record Continued (j g : ℕ) (is : Lent) (j' g' : ℕ) (is' : Lent) : Type 0 where
-  pub answers : Starts (take j is.answers) (take j' is'.answers)
-  pub trail : Starts (take g is.trail) (take g' is'.trail)
+pub record Continued (found : Found) (is : Lent) (found' : Found) (is' : Lent) : Type 0 where
+  pub answers : Starts (take found.joints is.answers) (take found'.joints is'.answers)
+  pub trail : Starts (take found.boxes is.trail) (take found'.boxes is'.trail)
 
 -- a longer list never contradicts a shorter one
-pub longer : {h : ℕ} {bytes d d' : List ℕ} {row column : ℤ} {k k' : ℕ} {was is was' is' : Lent} {j g j' g' : ℕ} → k ≤ k'
-    → Kept h bytes d row column k was (Found j g) is → Kept h bytes d' row column k' was' (Found j' g') is' → Continued j g is j' g' is'
+pub longer : {h : ℕ} {bytes d d' : List ℕ} {row column : ℤ} {k k' : ℕ} {was is was' is' : Lent} {found found' : Found} → k ≤ k'
+    → Kept h bytes d row column k was (Ok found) is → Kept h bytes d' row column k' was' (Ok found') is' → Continued found is found' is'
 longer {h} {bytes} {d} {row = row} {column = column} {k = k} {k' = k'} {was = was} le a b =
     let may = served_may h bytes d (place_at row column) k (rooms was) (sym a.number) in
     let p = place_of (place_at row column) in

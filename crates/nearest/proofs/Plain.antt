@@ -15,7 +15,8 @@ use Rattle.search.specs.Plain.{FirstJoints, Trail}
 use Rattle.search.proofs.PlainJoints.{answer_in}
 use Rattle.search.proofs.Plain.{answer_plain, trail_plain}
 use Rattle.nearest.specs.declared.answer.Answer.{Answer}
-use Rattle.nearest.specs.declared.ask.Nearest.TheVariants.{Found, Refused as Turned}
+use Rattle.std.specs.Prelude.{Ok, Err}
+use Rattle.seek.specs.declared.answered.Found.{Found}
 use Rattle.keys.specs.Places.{place_of}
 use Rattle.nearest.specs.Answers.{zero_answer, answer_of, filled}
 use Rattle.nearest.specs.Kept.{place_at, Lent, rooms, Kept}
@@ -24,10 +25,10 @@ use Rattle.seek.proofs.Going.{ready_sound}
 use Rattle.nearest.proofs.Asks.{served_may}
 
 -- what a question that is served leaves, without keys
-pub kept_plain : {h : ℕ} {bytes d : List ℕ} {row column : ℤ} {k : ℕ} {was is : Lent} {j g : ℕ} → Kept h bytes d row column k was (Found j g) is
-    → Plainly h bytes (place_of (place_at row column)) k j g was is
+pub kept_plain : {h : ℕ} {bytes d : List ℕ} {row column : ℤ} {k : ℕ} {was is : Lent} {found : Found} → Kept h bytes d row column k was (Ok found) is
+    → Plainly h bytes (place_of (place_at row column)) k found.joints found.boxes was is
 unfolding filled left_in
-kept_plain {h} {bytes} {d} {row} {column} {k} {was} {is} {j} {g} kept =
+kept_plain {h} {bytes} {d} {row} {column} {k} {was} {is} {found = it} kept =
     let e = sym kept.number in
     let may = served_may h bytes d (place_at row column) k (rooms was) e in
     let sound = ready_sound may.0.ready in
@@ -35,6 +36,12 @@ kept_plain {h} {bytes} {d} {row} {column} {k} {was} {is} {j} {g} kept =
     let boxes = question.trail p h bytes k in
     go keys boxes may.1 may.2 (rw e at kept.answers) (rw e at kept.trail) (answer_plain p h bytes sound k) (trail_plain p h bytes sound k may.0.some)
   where
+    j : ℕ
+    j = it.joints
+
+    g : ℕ
+    g = it.boxes
+
     p : near.Place
     p = place_of (place_at row column)
 
@@ -52,7 +59,7 @@ kept_plain {h} {bytes} {d} {row} {column} {k} {was} {is} {j} {g} kept =
         }
 
 -- after a refusal the answer list and the trail list are all zero; the work lists always are
-pub refused_zeros : {h : ℕ} {bytes d : List ℕ} {row column : ℤ} {k : ℕ} {was is : Lent} {f : Refusal} → Kept h bytes d row column k was (Turned f) is
+pub refused_zeros : {h : ℕ} {bytes d : List ℕ} {row column : ℤ} {k : ℕ} {was is : Lent} {f : Refusal} → Kept h bytes d row column k was (Err f) is
     → (is.answers ≡ replicate (length was.answers) zero_answer) × (is.trail ≡ replicate (length was.trail) 0)
 unfolding filled left_in
 refused_zeros {was = was} kept =

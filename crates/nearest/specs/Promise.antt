@@ -1,16 +1,14 @@
 -- What a question is answered, in the paper's numbers and order, and what it leaves in the lists lent to it.
-use Rattle.std.specs.Prelude.{ℕ, max, Bool, true, ◌&&◌, List, [], ◌∷◌, length, leb}
-use Rattle.refusal.specs.Numbers.{number_of}
-use Rattle.refusal.specs.Answer.{Answer, Served, Refused, ◌unless◌, ◌then◌}
+use Rattle.std.specs.Prelude.{ℕ, max, Bool, true, ◌&&◌, Result, Ok, Err, List, [], ◌∷◌, length, leb}
+use Rattle.refusal.specs.declared.Refusal.{Refusal}
+use Rattle.refusal.specs.Answer.{Answer, Served, ◌unless◌, ◌then◌}
+use Rattle.refusal.specs.Results.{answer_by}
 use Rattle.bitmap.specs.Directory.{directory_of, alike}
 use Rattle.board.specs.Levels.{joints}
 use Rattle.board.specs.Check.{check_of}
 use Rattle.search.specs.Question.{answer_keys, trail}
 use Rattle.keys.specs.declared.distance.Place.{Place}
-use Rattle.nearest.specs.declared.gate.Gate.{Gate}
-use Rattle.nearest.specs.declared.gate.Gate.TheVariants.{Open, Shut}
-use Rattle.nearest.specs.declared.ask.Nearest.{Nearest}
-use Rattle.nearest.specs.declared.ask.Nearest.TheVariants.{Found, Refused as Turned}
+use Rattle.seek.specs.declared.answered.Found.{Found}
 use Rattle.keys.specs.Places.{place_of, in_range}
 
 -- the most joints that a question may ask for
@@ -45,16 +43,14 @@ nearest_of h bytes d p k r =
     then 11 unless leb (length (trail (place_of p) h bytes k)) r.trail
     then Served (length (answer_keys (place_of p) h bytes k) ∷ length (trail (place_of p) h bytes k) ∷ [])
 
--- the paper's number and values for each case of the code's answers
-abbrev pub numbers_of : Nearest → Answer (List ℕ)
-numbers_of (Found joints boxes) = Served (joints ∷ boxes ∷ [])
-numbers_of (Turned refusal) = Refused (number_of refusal)
+-- the paper's number and values of a question, and of its tests
+abbrev pub numbers_of : Result Found Refusal → Answer (List ℕ)
+numbers_of = answer_by (λ found. found.joints ∷ found.boxes ∷ [])
 
-abbrev pub pass_of : Gate → Answer Bool
-pass_of Open = Served true
-pass_of (Shut refusal) = Refused (number_of refusal)
+abbrev pub pass_of : Result (Unit {0}) Refusal → Answer Bool
+pass_of = answer_by (λ passed. true)
 
 -- the joints of an answer: none after a refusal
-abbrev pub joints_of : Nearest → ℕ
-joints_of (Found joints boxes) = joints
-joints_of (Turned refusal) = 0
+abbrev pub joints_of : Result Found Refusal → ℕ
+joints_of (Ok found) = found.joints
+joints_of (Err refusal) = 0

@@ -7,7 +7,7 @@ ghost use Rattle.nearest.specs.Answers.{zero_answer, answer_of, filled, Handed};
 use keys::{distance, entry};
 
 // A joint of an answer.
-#[derive(Clone, Copy)]
+#[derive(Clone, Copy, Default)]
 pub struct Answer {
     pub row: u32,
     pub column: u32,
@@ -26,21 +26,15 @@ pub fn answer_of(key: u64) -> Answer
     }
 }
 
-// What goes to a place of the answer list: a joint's record, and zeros after the n handed out. The keys stay as they are; they are lent
-// for writing because their lender has them so, and a walk lends a list on as it has it.
-pub(crate) fn pick(keys: &mut [u64], n: usize, at: usize) -> Answer
-    requires { Handed n keys.old }
-    ensures { (result ≡ get_or (map answer_of (handed_in n keys.old)) at zero_answer) × (keys.new ≡ keys.old) }
+// What goes to a place of the answer list: a joint's record, and zeros after the n handed out.
+pub(crate) fn pick(keys: &[u64], n: usize, at: usize) -> Answer
+    requires { Handed n keys.now }
+    ensures { result ≡ get_or (map answer_of (handed_in n keys.now)) at zero_answer }
 {
     if at < n {
-        let place = keys.len() - 1 - at;
-        return answer_of(keys[place]);
+        return answer_of(keys[keys.len() - 1 - at]);
     }
-    Answer {
-        row: 0,
-        column: 0,
-        distance: 0,
-    }
+    Answer::default()
 }
 
 // One record is stored.
@@ -52,14 +46,11 @@ pub(crate) fn put(list: &mut [Answer], at: usize, a: Answer)
 }
 
 // The n joints handed out are put into the answer list, and the rest of it is cleared.
-pub(crate) fn deliver(keys: &mut [u64], n: usize, list: &mut [Answer])
-    requires { (Handed n keys.old) × (n ≤ length list.old) }
-    ensures { (list.new ≡ filled (handed_in n keys.old) (length list.old)) × (keys.new ≡ keys.old) }
+pub(crate) fn deliver(keys: &[u64], n: usize, list: &mut [Answer])
+    requires { (Handed n keys.now) × (n ≤ length list.old) }
+    ensures { list.new ≡ filled (handed_in n keys.now) (length list.old) }
 {
-    let mut i: usize = 0;
-    while i < list.len() {
-        let a = pick(keys, n, i);
-        put(list, i, a);
-        i += 1;
+    for at in 0..list.len() {
+        put(list, at, pick(keys, n, at));
     }
 }

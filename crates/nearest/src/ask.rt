@@ -1,71 +1,61 @@
 // A question is asked: tested, searched, and its number lists cleared but for the keys of the joints found, which are left for the answer list.
-ghost use Rattle.std.specs.Prelude.{◌≡◌};
-ghost use Rattle.seek.specs.Told.{sought_of};
+ghost use Rattle.std.specs.Prelude.{◌≡◌, Bool, true, length};
+ghost use Rattle.refusal.specs.Answer.{Served, ◌then◌};
+ghost use Rattle.seek.specs.Told.{searched_of, Told, Searchable};
 ghost use Rattle.nearest.specs.Asked.{Asked};
-ghost use Rattle.nearest.specs.Promise.{joints_of, numbers_of};
+ghost use Rattle.nearest.specs.Promise.{pass_of, joints_of, numbers_of};
 
-use crate::gate::{Gate, may_ask};
+use crate::gate::may_ask;
+use board::Board;
 use keys::distance::Place;
 use refusal::Refusal;
-use seek::answered::{Sought, answered};
-
-// The answer to a question: the joints found and the boxes opened, or a refusal.
-#[derive(Clone, Copy)]
-pub enum Nearest {
-    Found { joints: u32, boxes: u32 },
-    Refused(Refusal),
-}
+pub use seek::answered::Found;
+use seek::answered::answered;
 
 // How many joints were found.
-pub(crate) fn joints_of(r: Nearest) -> usize
+pub(crate) fn joints_of(r: Result<Found, Refusal>) -> usize
     ensures { result ≡ joints_of r }
 {
     match r {
-        Nearest::Found { joints, boxes: _ } => joints as usize,
-        Nearest::Refused(_) => 0,
+        Ok(found) => found.joints as usize,
+        Err(_) => 0,
     }
 }
 
-// What a search found, as an answer: 11 where its trail has no room.
-pub(crate) fn answer_from(s: Sought) -> Nearest
-    ensures { numbers_of result ≡ sought_of s }
+// The search of a question that passed its tests; after a refusal the lists are cleared.
+pub(crate) fn searched(
+    passed: Result<(), Refusal>,
+    board: Board,
+    p: Place,
+    k: u32,
+    keys: &mut [u64],
+    corners: &mut [u32],
+    trail: &mut [u32],
+) -> Result<Found, Refusal>
+    requires { pass_of passed ≡ Served true → Searchable board.height board.bytes.now board.directory.now p k (length keys.old) (length corners.old) }
+    ensures { Told (pass_of passed then searched_of board.entry.height board.entry.bytes.now p k (length trail.old)) board.entry.height board.entry.bytes.now p k keys.old corners.old trail.old (numbers_of result) keys.new corners.new trail.new }
 {
-    match s {
-        Sought::Found { joints, boxes } => Nearest::Found { joints, boxes },
-        Sought::Short => Nearest::Refused(Refusal::TrailRoom),
+    if let Err(refusal) = passed {
+        lent::clear(keys);
+        lent::clear(corners);
+        lent::clear(trail);
+        return Err(refusal);
     }
+    answered(board, p, k, keys, corners, trail).ok_or(Refusal::TrailRoom)
 }
 
 // The question without its answer list, of which it takes the room alone.
 pub fn asked(
-    height: u32,
-    bytes: &[u8],
-    directory: &[u16],
+    board: Board,
     p: Place,
     k: u32,
     answers: usize,
     keys: &mut [u64],
     corners: &mut [u32],
     trail: &mut [u32],
-) -> Nearest
-    ensures { Asked height bytes.now directory.now p k answers keys.old corners.old trail.old result keys.new corners.new trail.new }
+) -> Result<Found, Refusal>
+    ensures { Asked board.entry.height board.entry.bytes.now board.entry.directory.now p k answers keys.old corners.old trail.old result keys.new corners.new trail.new }
 {
-    let g = may_ask(
-        height,
-        bytes,
-        directory,
-        p,
-        k,
-        answers,
-        keys.len(),
-        corners.len(),
-    );
-    if let Gate::Shut(refusal) = g {
-        lent::clear_longs(keys);
-        lent::clear_words(corners);
-        lent::clear_words(trail);
-        return Nearest::Refused(refusal);
-    }
-    let s = answered(height, bytes, directory, p, k, keys, corners, trail);
-    answer_from(s)
+    let passed = may_ask(board, p, k, answers, keys.len(), corners.len());
+    searched(passed, board, p, k, keys, corners, trail)
 }

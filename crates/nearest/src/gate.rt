@@ -1,32 +1,45 @@
 // The tests that a question passes before the search, in the order of the numbers of refusal.
-ghost use Rattle.std.specs.Prelude.{◌≡◌, List, max};
+ghost use Rattle.std.specs.Prelude.{◌≡◌, List, ◌&&◌, max, leb};
 ghost use Rattle.refusal.specs.Answer.{◌unless◌, ◌then◌};
 ghost use Rattle.bitmap.specs.Directory.{directory_of, alike};
 ghost use Rattle.board.specs.Check.{check_of};
+ghost use Rattle.keys.specs.Places.{in_range};
 ghost use Rattle.nearest.specs.Promise.{pass_of, room_of, work_for};
 
-use board::ask::ask;
-use board::check::Checked;
+use board::Board;
 use keys::distance::{Place, is_named};
 use refusal::Refusal;
 
 // The most joints that a question may ask for.
 const MAX_WANTED: u32 = 255;
 
-#[derive(Clone, Copy)]
-pub(crate) enum Gate {
-    Open,
-    Shut(Refusal),
-}
-
 // The places that each work list must have: as many as there are joints, at least 1.
-pub(crate) fn work_for(joints: u32) -> usize
+fn work_for(joints: u32) -> usize
     ensures { result ≡ max 1 joints }
 {
-    if joints < 1 {
-        return 1;
+    joints.max(1) as usize
+}
+
+// The first test, of the place.
+pub(crate) fn may_name(p: Place) -> Result<(), Refusal>
+    ensures { pass_of result ≡ (7 unless in_range p) }
+{
+    if is_named(p) {
+        Ok(())
+    } else {
+        Err(Refusal::Place)
     }
-    joints as usize
+}
+
+// The last test, of the work lists, over a board of so many joints.
+pub(crate) fn may_work(joints: u32, keys: usize, corners: usize) -> Result<(), Refusal>
+    ensures { pass_of result ≡ (10 unless (leb (max 1 joints) keys && leb (max 1 joints) corners)) }
+{
+    let work = work_for(joints);
+    if keys < work || corners < work {
+        return Err(Refusal::WorkRoom);
+    }
+    Ok(())
 }
 
 // The tests of the question itself, over a board of so many joints.
@@ -37,49 +50,30 @@ fn question_passes(
     answers: usize,
     keys: usize,
     corners: usize,
-) -> Gate
+) -> Result<(), Refusal>
     ensures { pass_of result ≡ room_of p k (max 1 joints) (record { answers = answers; keys = keys; corners = corners; trail = 0 }) }
 {
-    if !is_named(p) {
-        return Gate::Shut(Refusal::Place);
-    }
-    if k < 1 {
-        return Gate::Shut(Refusal::Count);
-    }
-    if MAX_WANTED < k {
-        return Gate::Shut(Refusal::Count);
+    may_name(p)?;
+    if !(1..=MAX_WANTED).contains(&k) {
+        return Err(Refusal::Count);
     }
     if answers < k as usize {
-        return Gate::Shut(Refusal::AnswerRoom);
+        return Err(Refusal::AnswerRoom);
     }
-    let work = work_for(joints);
-    if keys < work {
-        return Gate::Shut(Refusal::WorkRoom);
-    }
-    if corners < work {
-        return Gate::Shut(Refusal::WorkRoom);
-    }
-    Gate::Open
+    may_work(joints, keys, corners)
 }
 
 // The tests of the board and of the question.
 pub(crate) fn may_ask(
-    height: u32,
-    bytes: &[u8],
-    directory: &[u16],
+    board: Board,
     p: Place,
     k: u32,
     answers: usize,
     keys: usize,
     corners: usize,
-) -> Gate
-    ensures { pass_of result ≡ (check_of height bytes.now then 6 unless alike directory.now (directory_of bytes.now) then room_of p k (work_for height bytes.now) (record { answers = answers; keys = keys; corners = corners; trail = 0 })) }
+) -> Result<(), Refusal>
+    ensures { pass_of result ≡ (check_of board.entry.height board.entry.bytes.now then 6 unless alike board.entry.directory.now (directory_of board.entry.bytes.now) then room_of p k (work_for board.entry.height board.entry.bytes.now) (record { answers = answers; keys = keys; corners = corners; trail = 0 })) }
 {
-    let checked = ask(height, bytes, directory);
-    match checked {
-        Checked::Refused(refusal) => Gate::Shut(refusal),
-        Checked::Board { joints, boxes: _ } => question_passes(
-            p, k, joints, answers, keys, corners,
-        ),
-    }
+    let counts = board.ask()?;
+    question_passes(p, k, counts.joints, answers, keys, corners)
 }

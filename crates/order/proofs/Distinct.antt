@@ -6,10 +6,10 @@ use native.Mathlib.Omega.{arith}
 use native.Mathlib.Numerals.{add-one}
 use lib.Dec.{eqb}
 use lib.ListN.{length, get_or, set, take, drop, replicate, length-append, length-replicate, length-set}
-use lib.Seq.{append_snoc, set_at, get_or_at, drop-cons, take_at, drop_at, length-take-le}
+use lib.Seq.{append_snoc, set_at, get_or_at, drop-cons}
 use borrow.Author.Tests.{eq-eqb, ne_eqb}
-use Rattle.order.specs.Order.{unless_first, distinct, sort}
-use Rattle.order.specs.Once.{Left, Dropped, Tidied}
+use Rattle.order.specs.Order.{unless_first, distinct}
+use Rattle.order.specs.Once.{Left, Dropped}
 use Rattle.order.proofs.Cases.{test_cases}
 
 -- one more behind a list that is not empty
@@ -124,16 +124,6 @@ module _ {l₀ l : List ℕ} {i kept last : ℕ} (s : Once l₀ l i kept last) (
 pub dropped_none : (l : List ℕ) (n : ℕ) → n ≡ 0 → Dropped l l n 0
 unfolding distinct
 dropped_none l n q = rw q (record { many = refl; few = omega arith; has = refl })
-
--- all n were looked at
-pub once_end : {l₀ l : List ℕ} {n i kept last : ℕ} → Once l₀ l i kept last → i ≡ n → Dropped l₀ l n kept
-once_end s q = rw (← q) (record { many = sym s.many; few = s.few; has = s.has })
-
--- the first n sorted, then made distinct
-pub tidied : (l p m : List ℕ) (n r : ℕ) → n ≤ length l → length p ≡ length (take n l) → p ≡ sort (take n l) → Dropped (p ++ drop n l) m n r → Tidied l m n r
-tidied l p m n r room long e s =
-    let q : length p ≡ n = long ∙ length-take-le n l room in
-    rw (take_at p (drop n l) n q, drop_at p (drop n l) n q, e) at s
 
 -- what is found determines all that is left
 pub left_one : {found rest m o : List ℕ} {n r s : ℕ} → Left found rest m n r → Left found rest o n s → (r ≡ s) × (m ≡ o)

@@ -12,11 +12,10 @@ pub fn drop(list: &mut [u32], n: usize) -> usize
     }
     let mut last = list[0];
     let mut kept = 1;
-    let mut i = 1;
-    while i < n {
+    // By number: one place of the list is read while another is written.
+    for i in 1..n {
         let x = list[i];
         list[i] = 0;
-        i += 1;
         if x != last {
             list[kept] = x;
             kept += 1;

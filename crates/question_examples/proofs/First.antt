@@ -1,4 +1,5 @@
 -- A local array of n times one plain struct is lent in its first k places as a `&mut [T]`, and comes back. It says nothing of the crate.
+-- docs/DECISIONS.md names `lends_first`; no proof of the crate cites it.
 --     lends_first      the array  ⊢ ⇛ ∃ γ. own (the `&κ mut [T]` ((b, 0), γ, its first k elements)) ∗ the lender's part
 --     first_back       [†κ] ∗ the lender's part ∗ finally γ ys  ⊢ ⇛ ∃ us. the array, at some machine values us
 -- Assumes `Logic`.

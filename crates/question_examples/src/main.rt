@@ -3,230 +3,178 @@
 // that must be zero is not.
 #![tactic(auto)]
 
-ghost use Rattle.std.specs.Prelude.{◌≤◌, ◌<◌, ◌^◌};
-
-use crate::answers::{ROOM, asked};
-use crate::stream::{Case, case_at};
+use crate::stream::{Case, Question, Rooms, read_case};
+use board::Board;
 use board::directory::make_directory;
-use keys::distance::Place;
-use nearest::ask::Nearest;
+use nearest::answer::Answer;
+use nearest::nearest;
+use say::{Spaced, nonzero};
+use std::io::Read;
+use std::{fmt, io};
 
-mod answers;
 mod stream;
 
 // The places of the lists in the frame.
+const ANSWERS: usize = 300;
+
 const WORK: usize = 4200;
 
 const TRAIL: usize = 18000;
 
 const BLOCKS: usize = 139;
 
+// The most bytes that are taken of the stream.
 const STREAM: usize = 300000;
 
-fn least(a: usize, b: usize) -> usize
-    ensures { (result ≤ a) × (result ≤ b) }
-{
-    if a < b {
-        return a;
-    }
-    b
-}
-
-fn nonzero(list: &[u32]) -> usize {
-    let mut count: usize = 0;
-    for i in 0..list.len() {
-        if list[i] != 0 {
-            count += 1;
-        }
-    }
-    count
-}
-
-fn nonzero_long(list: &[u64]) -> usize {
-    let mut count: usize = 0;
-    for i in 0..list.len() {
-        if list[i] != 0 {
-            count += 1;
-        }
-    }
-    count
-}
-
-// Said only where zeros are missing.
-fn say_left(count: usize) {
-    if count != 0 {
-        say::text(b" left");
-        io::print_decimal(1, count as u64);
-    }
-}
-
-// The first numbers of a list; the rest of it must be zero.
-fn say_list(list: &[u32], n: usize) {
-    let k = least(n, list.len());
-    say::words(&list[0..k]);
-    say_left(nonzero(&list[k..]));
-}
-
-fn say_found(joints: u32, boxes: u32, numbers: &[u32], trail: &[u32]) {
-    say::text(b"0 ");
-    say::number(joints);
-    say::text(b" ");
-    say::number(boxes);
-    say_list(numbers, 3 * joints as usize);
-    say_list(trail, boxes as usize);
-}
-
-fn say_answer(r: Nearest, numbers: &[u32], trail: &[u32]) {
-    match r {
-        Nearest::Found { joints, boxes } => say_found(joints, boxes, numbers, trail),
-        Nearest::Refused(refusal) => {
-            say::number(refusal.number());
-            say::text(b" 0 0");
-            say_list(numbers, 0);
-            say_list(trail, 0);
-        }
-    }
-}
-
-// What a question lends.
+// Row, column and squared distance of each joint, after spaces.
 #[derive(Clone, Copy)]
-struct Rooms {
-    answers: usize,
-    keys: usize,
-    corners: usize,
-    trail: usize,
+struct Joints<'a>(&'a [Answer]);
+
+impl fmt::Display for Joints<'_> {
+    fn fmt<W: fmt::Write>(&self, f: &mut fmt::Formatter<W>) -> fmt::Result {
+        for joint in self.0 {
+            write!(f, " {} {} {}", joint.row, joint.column, joint.distance)?;
+        }
+        Ok(())
+    }
+}
+
+// How many numbers are not zero, said only where zeros are missing.
+#[derive(Clone, Copy)]
+struct Left(usize);
+
+impl fmt::Display for Left {
+    fn fmt<W: fmt::Write>(&self, f: &mut fmt::Formatter<W>) -> fmt::Result {
+        match self.0 {
+            0 => Ok(()),
+            count => write!(f, " left{count}"),
+        }
+    }
+}
+
+fn nonzero_in(answers: &[Answer]) -> usize {
+    answers.iter().fold(0, |count: usize, a| {
+        count.saturating_add(nonzero(&[a.row, a.column, a.distance]))
+    })
 }
 
 // One question and its line.
 fn show_with(
-    height: u32,
-    bytes: &[u8],
-    directory: &[u16],
-    place: Place,
-    k: u32,
-    answers: usize,
+    rt: &impl Print,
+    board: Board,
+    question: Question,
+    answers: &mut [Answer],
     keys: &mut [u64],
     corners: &mut [u32],
     trail: &mut [u32],
-) {
-    let mut numbers = [0u32; 900];
-    let room = least(answers, ROOM);
-    let r = asked(
-        height,
-        bytes,
-        directory,
-        place,
-        k,
-        room,
-        keys,
-        corners,
-        trail,
-        &mut numbers,
-    );
-    say_answer(r, &numbers, trail);
-    say_left(nonzero_long(keys));
-    say_left(nonzero(corners));
-    say::text(b"\n");
+) -> io::Result<()> {
+    let Question { row, column, k } = question;
+    let (number, joints, boxes) = match nearest(
+        board, row, column, k, answers, keys, corners, trail,
+    ) {
+        Ok(found) => (0, found.joints, found.boxes),
+        Err(refusal) => (refusal.number(), 0, 0),
+    };
+    let (near, behind) = answers.split_at((joints as usize).min(answers.len()));
+    print!(rt;
+        "{number} {joints} {boxes}{}{}",
+        Joints(near),
+        Left(nonzero_in(behind))
+    )?;
+    let (opened, behind) = trail.split_at((boxes as usize).min(trail.len()));
+    print!(rt; "{}{}", Spaced(opened), Left(nonzero(behind)))?;
+    println!(rt; "{}{}", Left(nonzero(keys)), Left(nonzero(corners)))
 }
 
-fn show(height: u32, bytes: &[u8], directory: &[u16], place: Place, k: u32, rooms: Rooms) {
-    let mut keys = [7u64; WORK];
-    let mut corners = [7u32; WORK];
-    let mut trail = [7u32; TRAIL];
-    let n = least(rooms.keys, WORK);
-    let m = least(rooms.corners, WORK);
-    let t = least(rooms.trail, TRAIL);
+// All lists begin with other numbers than zero.
+fn show(rt: &impl Print, board: Board, question: Question, rooms: Rooms) -> io::Result<()> {
+    let mut answers = [Answer {
+        row: 7,
+        column: 7,
+        distance: 7,
+    }; ANSWERS];
+    let mut keys = [7; WORK];
+    let mut corners = [7; WORK];
+    let mut trail = [7; TRAIL];
     show_with(
-        height,
-        bytes,
-        directory,
-        place,
-        k,
-        rooms.answers,
-        &mut keys[0..n],
-        &mut corners[0..m],
-        &mut trail[0..t],
-    );
+        rt,
+        board,
+        question,
+        &mut answers[..rooms.answers.min(ANSWERS)],
+        &mut keys[..rooms.keys.min(WORK)],
+        &mut corners[..rooms.corners.min(WORK)],
+        &mut trail[..rooms.trail.min(TRAIL)],
+    )
 }
 
 // With the board's own directory.
-fn show_case(bytes: &[u8], c: Case) {
-    let mut space = [0u16; BLOCKS];
-    let blocks = least((bytes.len() + 63) / 64, BLOCKS);
-    let directory = &mut space[0..blocks];
-    make_directory(c.height, bytes, directory);
-    show(
-        c.height,
+fn show_case(rt: &impl Print, bytes: &[u8], case: Case) -> io::Result<()> {
+    let Case {
+        height,
+        length: _,
+        question,
+        rooms,
+    } = case;
+    let mut space = [0; BLOCKS];
+    let directory = &mut space[..bytes.len().div_ceil(64).min(BLOCKS)];
+    let _ = make_directory(height, bytes, directory);
+    let board = Board {
+        height,
         bytes,
         directory,
-        Place {
-            row: c.row,
-            column: c.column,
-        },
-        c.k,
-        Rooms {
-            answers: c.answers,
-            keys: c.work,
-            corners: c.work,
-            trail: c.trail,
-        },
-    );
-}
-
-// The case at a place of the stream, if it ends within it; the place behind it.
-fn answer_one(stream: &[u8], at: usize) -> usize
-    requires { at < 2 ^ 62 }
-    ensures { at < result }
-{
-    let c = case_at(stream, at);
-    let first = c.first;
-    let end = first + c.length;
-    if c.end <= stream.len() {
-        show_case(&stream[first..end], c);
-    }
-    c.end
-}
-
-fn answer_all(stream: &[u8]) {
-    let end = least(stream.len(), STREAM);
-    let mut at: usize = 0;
-    while at < end {
-        at = answer_one(stream, at);
-    }
+    };
+    show(rt, board, question, rooms)
 }
 
 // Board A, place (1,1), K 1: it needs one answer, four places of work each, and a trail of two boxes.
-fn show_a(directory: &[u16], answers: usize, keys: usize, corners: usize, trail: usize) {
-    show(
-        2,
-        b"\x96\x50",
+fn show_a(
+    rt: &impl Print,
+    directory: &[u16],
+    answers: usize,
+    keys: usize,
+    corners: usize,
+    trail: usize,
+) -> io::Result<()> {
+    let board = Board {
+        height: 2,
+        bytes: b"\x96\x50",
         directory,
-        Place { row: 1, column: 1 },
-        1,
-        Rooms {
-            answers,
-            keys,
-            corners,
-            trail,
-        },
-    );
+    };
+    let question = Question {
+        row: 1,
+        column: 1,
+        k: 1,
+    };
+    let rooms = Rooms {
+        answers,
+        keys,
+        corners,
+        trail,
+    };
+    show(rt, board, question, rooms)
 }
 
 // Every list on its own one place too short, and the directory wrong in its length and in its entry.
-fn show_rooms() {
-    show_a(&[0], 1, 4, 4, 2);
-    show_a(&[0], 0, 4, 4, 2);
-    show_a(&[0], 1, 3, 4, 2);
-    show_a(&[0], 1, 4, 3, 2);
-    show_a(&[0], 1, 4, 4, 1);
-    show_a(&[], 1, 4, 4, 2);
-    show_a(&[0, 0], 1, 4, 4, 2);
-    show_a(&[1], 1, 4, 4, 2);
+fn show_rooms(rt: &impl Print) -> io::Result<()> {
+    show_a(rt, &[0], 1, 4, 4, 2)?;
+    show_a(rt, &[0], 0, 4, 4, 2)?;
+    show_a(rt, &[0], 1, 3, 4, 2)?;
+    show_a(rt, &[0], 1, 4, 3, 2)?;
+    show_a(rt, &[0], 1, 4, 4, 1)?;
+    show_a(rt, &[], 1, 4, 4, 2)?;
+    show_a(rt, &[0, 0], 1, 4, 4, 2)?;
+    show_a(rt, &[1], 1, 4, 4, 2)
 }
 
-fn main() {
-    show_rooms();
-    let mut space = [0u8; STREAM];
-    let n = io::read_full(0, &mut space);
-    answer_all(&space[0..n]);
+fn main(rt: HostRuntime) -> io::Result<()> {
+    show_rooms(&rt)?;
+    let mut input = rt.stdin().take(STREAM as u64);
+    let mut space = [0; STREAM];
+    for _ in 0..STREAM {
+        let Ok(case) = read_case(&mut input, &mut space) else {
+            break;
+        };
+        show_case(&rt, &space[..case.length], case)?;
+    }
+    Ok(())
 }

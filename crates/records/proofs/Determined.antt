@@ -1,26 +1,22 @@
 -- Each promise determines its call.
+use mathlib.Core.Path.{refl, sym, ap, ◌∙◌}
 use Prim.Native.Nat.{ℕ}
-use mathlib.Core.Path.{◌≡◌, refl, sym, ap, ◌∙◌}
 use Rattle.promise.specs.Determines.{Determines}
-use Rattle.refusal.proofs.Numbers.{one_to_twenty}
-use Rattle.refusal.proofs.Answers.{not_both}
+use Rattle.measure.proofs.Alike.{answers_alike, said_alike}
 use Rattle.records.specs.declared.record.Record.{Record}
 use Rattle.records.specs.declared.record.Recorded.{Recorded}
-use Rattle.records.specs.declared.record.Recorded.TheVariants.{Record as Read, Refused as NotRead}
-use Rattle.records.specs.Answers.{recorded_of}
+use Rattle.records.specs.contracts.kind.KindTryFromU8.try_from as try-from-fn
+use Rattle.records.proofs.kind.KindTryFromU8.try_from.Reads as try-from
+use Rattle.records.specs.contracts.kind.Kind.body_length as body-length-fn
+use Rattle.records.proofs.kind.Kind.body_length.Reads as body-length
 use Rattle.records.specs.contracts.record.record_at as record-at-fn
 use Rattle.records.proofs.record.record_at.Reads as record-at
 
--- two records read, or refused, alike are equal
-recorded_alike : (r s : Recorded) → recorded_of r ≡ recorded_of s → r ≡ s
-recorded_alike (Read r next) (Read s then) e =
-    let both : ◌≡◌ {A = Record × ℕ} (r, next) (s, then) = cc in
-    rw (ap (λ (w : Record × ℕ). w.0) both, ap (λ (w : Record × ℕ). w.1) both)
-recorded_alike (Read r next) (NotRead n) e = absurd (not_both (sym e))
-recorded_alike (NotRead m) (Read s then) e = absurd (not_both e)
-recorded_alike (NotRead m) (NotRead n) e =
-    let same : m ≡ n = one_to_twenty.distinct m n (let k : _ ≡ _ = cc in k) in
-    rw same
+pub try_from_determined : Determines try-from-fn.ended try-from.Asked try-from.Learnt
+try_from_determined κs a asked x y left other p q = (answers_alike x y (p ∙ sym q), refl)
+
+pub body_length_determined : Determines body-length-fn.ended body-length.Asked body-length.Learnt
+body_length_determined κs a asked x y left other p q = (p ∙ sym q, refl)
 
 pub record_at_determined : Determines record-at-fn.ended record-at.Asked record-at.Learnt
-record_at_determined κs a asked x y left other p q = (recorded_alike x y (p ∙ sym q), refl)
+record_at_determined κs a asked x y left other p q = (said_alike (λ (read : Recorded). (read.record, read.next)) (λ x y e. let one = ap (λ (w : Record × ℕ). w.0) e in let two = ap (λ (w : Record × ℕ). w.1) e in λ i. record { «record» = one i; next = two i }) x y (p ∙ sym q), refl)

@@ -1,3 +1,2 @@
-pub mod Marked
 pub mod Recording
 pub mod Determined

@@ -5,8 +5,6 @@ use Rattle.records.specs.declared.kind.Kind.{Kind}
 use Rattle.records.specs.declared.kind.Kind.TheVariants.{Board, Joint, Question, Window, End}
 use Rattle.records.specs.declared.kind.Stage.{Stage}
 use Rattle.records.specs.declared.kind.Stage.TheVariants.{Start, Joints, Requests}
-use Rattle.records.specs.declared.kind.Known.{Known}
-use Rattle.records.specs.declared.kind.Known.TheVariants.{Body, Nothing}
 
 -- the kind of a byte; any other byte is 14
 unfoldable pub kind_of : ℕ → Answer Kind
@@ -24,11 +22,6 @@ body_length Joint = 10
 body_length Question = 13
 body_length Window = 20
 body_length End = 0
-
--- a kind with the length of its body
-abbrev pub known_of : Answer Kind → Known
-known_of (Served kind) = Body kind (body_length kind)
-known_of (Refused n) = Nothing
 
 abbrev pub is_board : Kind → Bool
 is_board Board = true

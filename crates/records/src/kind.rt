@@ -1,11 +1,14 @@
 // The kinds of record of a joint sheet: the length of each one's body, and where it may stand.
 ghost use Rattle.std.specs.Prelude.{◌≡◌};
-ghost use Rattle.records.specs.Kinds.{kind_of, known_of, is_board, is_joint, in_place};
+ghost use Rattle.refusal.specs.Results.{answer_of};
+ghost use Rattle.records.specs.Kinds.{kind_of, body_length, in_place};
+
+use refusal::Refusal;
 
 // The bytes of a joint record's body.
 pub const JOINT_BODY: usize = 10;
 
-#[derive(Clone, Copy)]
+#[derive(Clone, Copy, PartialEq, Eq)]
 pub enum Kind {
     Board,
     Joint,
@@ -15,69 +18,44 @@ pub enum Kind {
 }
 
 // How far a sheet has come: nothing yet; the board and joints; a question or a window.
-#[derive(Clone, Copy)]
+#[derive(Clone, Copy, PartialEq, Eq)]
 pub enum Stage {
     Start,
     Joints,
     Requests,
 }
 
-// What a byte of kind says: the kind and the length of its body, or that there is no such kind.
-#[derive(Clone, Copy)]
-pub(crate) enum Known {
-    Body { kind: Kind, length: usize },
-    Nothing,
-}
+// What a byte of kind says, by a match as document 01 has it; any other byte is refused by number 14.
+impl TryFrom<u8> for Kind {
+    type Error = Refusal;
 
-pub(crate) fn kind_of(byte: u8) -> Known
-    ensures { result ≡ known_of (kind_of byte) }
-{
-    match byte {
-        1 => Known::Body {
-            kind: Kind::Board,
-            length: 1,
-        },
-        2 => Known::Body {
-            kind: Kind::Joint,
-            length: JOINT_BODY,
-        },
-        3 => Known::Body {
-            kind: Kind::Question,
-            length: 13,
-        },
-        4 => Known::Body {
-            kind: Kind::Window,
-            length: 20,
-        },
-        5 => Known::Body {
-            kind: Kind::End,
-            length: 0,
-        },
-        _ => Known::Nothing,
+    ghost try_from_gives = { λ byte found. answer_of found ≡ kind_of byte };
+
+    #[tactic(auto, unfolding(crate::specs::Kinds::kind_of))]
+    fn try_from(byte: u8) -> Result<Kind, Refusal> {
+        match byte {
+            1 => Ok(Kind::Board),
+            2 => Ok(Kind::Joint),
+            3 => Ok(Kind::Question),
+            4 => Ok(Kind::Window),
+            5 => Ok(Kind::End),
+            _ => Err(Refusal::Kind),
+        }
     }
 }
 
-fn is_board(kind: Kind) -> bool
-    ensures { result ≡ is_board kind }
-{
-    match kind {
-        Kind::Board => true,
-        Kind::Joint => false,
-        Kind::Question => false,
-        Kind::Window => false,
-        Kind::End => false,
-    }
-}
-
-fn is_joint(kind: Kind) -> bool
-    ensures { result ≡ is_joint kind }
-{
-    match kind {
-        Kind::Board => false,
-        Kind::Joint => true,
-        Kind::Question => false,
-        Kind::Window => false,
-        Kind::End => false,
+impl Kind {
+    // The bytes of a record's body.
+    pub fn body_length(self) -> usize
+        ensures { result ≡ body_length self }
+    {
+        match self {
+            Kind::Board => 1,
+            Kind::Joint => JOINT_BODY,
+            Kind::Question => 13,
+            Kind::Window => 20,
+            Kind::End => 0,
+        }
     }
 }
 
@@ -86,13 +64,8 @@ pub(crate) fn in_place(stage: Stage, kind: Kind) -> bool
     ensures { result ≡ in_place stage kind }
 {
     match stage {
-        Stage::Start => is_board(kind),
-        Stage::Joints => !is_board(kind),
-        Stage::Requests => {
-            if is_board(kind) {
-                return false;
-            }
-            !is_joint(kind)
-        }
+        Stage::Start => kind == Kind::Board,
+        Stage::Joints => kind != Kind::Board,
+        Stage::Requests => !matches!(kind, Kind::Board | Kind::Joint),
     }
 }

@@ -4,9 +4,10 @@
 ghost use Rattle.std.specs.Prelude.{◌≡◌};
 ghost use Rattle.refusal.specs.Numbers.{number_of};
 
-#[derive(Clone, Copy)]
+// In the order of the table, from 1 on.
+#[derive(Clone, Copy, PartialEq, Eq)]
 pub enum Refusal {
-    Height,
+    Height = 1,
     CutShort,
     EmptyGroup,
     LeftOver,
@@ -33,27 +34,6 @@ impl Refusal {
     pub fn number(self) -> u32
         ensures { result ≡ number_of self }
     {
-        match self {
-            Refusal::Height => 1,
-            Refusal::CutShort => 2,
-            Refusal::EmptyGroup => 3,
-            Refusal::LeftOver => 4,
-            Refusal::TooManyJoints => 5,
-            Refusal::Directory => 6,
-            Refusal::Place => 7,
-            Refusal::Count => 8,
-            Refusal::AnswerRoom => 9,
-            Refusal::WorkRoom => 10,
-            Refusal::TrailRoom => 11,
-            Refusal::Cell => 12,
-            Refusal::Measure => 13,
-            Refusal::Kind => 14,
-            Refusal::OutOfPlace => 15,
-            Refusal::RecordCut => 16,
-            Refusal::End => 17,
-            Refusal::BitmapRoom => 18,
-            Refusal::SheetLength => 19,
-            Refusal::UnequalLists => 20,
-        }
+        self as u32
     }
 }

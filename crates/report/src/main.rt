@@ -2,15 +2,16 @@
 #![tactic(auto)]
 
 ghost use Rattle.std.specs.Prelude.{◌≡◌, ◌≤◌, length};
-ghost use Rattle.board.specs.Limits.{max_joints};
-ghost use Rattle.lines.specs.Report.{room, max_trail};
-ghost use Rattle.lines.specs.Whole.{BoardIn, OnDesk, first_request, max_blocks};
+ghost use Rattle.lines.specs.Report.{room};
+ghost use Rattle.lines.specs.Whole.{BoardIn, Laid, RoomyLists, first_request, max_blocks};
 ghost use Rattle.sheet.specs.Sheet.{max_records, max_bytes};
 
-use lines::ROOM;
+use board::Board;
 use lines::request::next_lines;
-use lines::start::{Begun, first_line};
+use lines::start::first_line;
+use lines::{Lists, ROOM};
 use sheet::{MAX_RECORDS, MAX_SHEET};
+use std::io::Read;
 
 // One byte more than the longest sheet has, so that a longer one is told from it.
 const INPUT: usize = MAX_SHEET + 1;
@@ -26,114 +27,101 @@ const JOINTS: usize = 4096;
 // The most boxes of a trail that is printed.
 const TRAIL: usize = 4096;
 
+// Reads until the list is full, the input ends or a read fails; how many bytes were read.
+fn read_full(mut reader: impl Read + Drop, input: &mut [u8]) -> usize
+    ensures { result ≤ length input.new }
+{
+    let mut done = 0;
+    while done < input.len() {
+        match reader.read(&mut input[done..]) {
+            Ok(0) | Err(_) => break,
+            Ok(n) => done += n,
+        }
+    }
+    done
+}
+
+// Prints bytes in one write. What cannot be written is left out, and the report goes on.
+fn print(rt: &impl Print, bytes: &[u8]) {
+    let _ = rt.write_all(bytes);
+}
+
 // Prints the lines of the records from the first after the joints on, each record's in one write, with the board on the program's desk.
 fn print_from(
-    height: u32,
-    bytes: &[u8],
-    directory: &[u16],
+    rt: &impl Print,
+    board: Board,
     sheet: &[u8],
     requests: usize,
-    rows: &mut [u32],
-    columns: &mut [u32],
-    keys: &mut [u64],
-    corners: &mut [u32],
-    trail: &mut [u32],
+    lists: &mut Lists,
     out: &mut [u8],
 )
-    requires { OnDesk sheet.now height bytes.now directory.now rows.old columns.old keys.old corners.old trail.old × (requests ≡ first_request sheet.now) × (room ≤ length out.old) }
+    requires { Laid sheet.now board lists.old × (requests ≡ first_request sheet.now) × (room ≤ length out.old) }
 {
     let mut at = requests;
     while at < sheet.len() {
-        let chunk = next_lines(
-            height, bytes, directory, sheet, at, rows, columns, keys, corners, trail, out,
-        );
-        let length = chunk.length;
-        io::write_all(1, &out[..length]);
+        let chunk = next_lines(board, sheet, at, lists, out);
+        print(rt, &out[..chunk.length]);
         at = chunk.next;
     }
 }
 
 // Prints the lines of the questions and windows of a sheet, and the end, with the directory of its board.
 fn print_requests(
+    rt: &impl Print,
     height: u32,
     bytes: &[u8],
     blocks: &mut [u16],
     sheet: &[u8],
     requests: usize,
-    rows: &mut [u32],
-    columns: &mut [u32],
-    keys: &mut [u64],
-    corners: &mut [u32],
-    trail: &mut [u32],
+    lists: &mut Lists,
     out: &mut [u8],
 )
-    requires { BoardIn sheet.now height bytes.now × (requests ≡ first_request sheet.now) × (max_blocks ≤ length blocks.old) × (length rows.old ≡ max_joints) × (length columns.old ≡ max_joints) × (length keys.old ≡ max_joints) × (length corners.old ≡ max_joints) × (length trail.old ≡ max_trail) × (room ≤ length out.old) }
+    requires { BoardIn sheet.now height bytes.now × (requests ≡ first_request sheet.now) × (max_blocks ≤ length blocks.old) × RoomyLists lists.old × (room ≤ length out.old) }
 {
     let count = bitmap::blocks_of(bytes.len());
-    board::directory::make_directory(height, bytes, &mut blocks[..count]);
-    print_from(
+    // A board that a sheet gives is served, so this is not refused.
+    let _ = board::directory::make_directory(height, bytes, &mut blocks[..count]);
+    let board = Board {
         height,
         bytes,
-        &blocks[..count],
-        sheet,
-        requests,
-        rows,
-        columns,
-        keys,
-        corners,
-        trail,
-        out,
-    );
+        directory: &blocks[..count],
+    };
+    print_from(rt, board, sheet, requests, lists, out);
 }
 
 // Prints the report of a sheet.
 fn print_report(
+    rt: &impl Print,
     sheet: &[u8],
     work: &mut [u32],
     bitmap: &mut [u8],
     blocks: &mut [u16],
-    rows: &mut [u32],
-    columns: &mut [u32],
-    keys: &mut [u64],
-    corners: &mut [u32],
-    trail: &mut [u32],
+    lists: &mut Lists,
     out: &mut [u8],
 )
-    requires { (length work.old ≡ max_records) × (length bitmap.old ≡ max_bytes) × (max_blocks ≤ length blocks.old) × (length rows.old ≡ max_joints) × (length columns.old ≡ max_joints) × (length keys.old ≡ max_joints) × (length corners.old ≡ max_joints) × (length trail.old ≡ max_trail) × (room ≤ length out.old) }
+    requires { (length work.old ≡ max_records) × (length bitmap.old ≡ max_bytes) × (max_blocks ≤ length blocks.old) × RoomyLists lists.old × (room ≤ length out.old) }
 {
-    match first_line(sheet, work, bitmap, out) {
-        Begun::Board {
-            height,
-            length,
-            requests,
-            end,
-        } => {
-            io::write_all(1, &out[..end]);
-            let bytes = length as usize;
-            print_requests(
-                height,
-                &bitmap[..bytes],
-                blocks,
-                sheet,
-                requests,
-                rows,
-                columns,
-                keys,
-                corners,
-                trail,
-                out,
-            );
-        }
-        Begun::Refused { end } => {
-            io::write_all(1, &out[..end]);
-        }
+    let begun = first_line(sheet, work, bitmap, out);
+    print(rt, &out[..begun.end]);
+    if let Some(size) = begun.board {
+        let bytes = &bitmap[..size.length as usize];
+        print_requests(
+            rt,
+            size.height,
+            bytes,
+            blocks,
+            sheet,
+            size.requests,
+            lists,
+            out,
+        );
     }
 }
 
 // There is room for the longest sheet and its joints, for the largest bitmap and its directory, and for every answer but the longest trails.
-fn main() {
+fn main(rt: HostRuntime) {
     let mut input = [0u8; INPUT];
-    let n = io::read_full(0, &mut input);
+    let n = read_full(rt.reader(), &mut input);
     let mut work = [0u32; MAX_RECORDS];
     let mut bitmap = [0u8; BITMAP];
     let mut blocks = [0u16; BLOCKS];
@@ -142,17 +130,21 @@ fn main() {
     let mut keys = [0u64; JOINTS];
     let mut corners = [0u32; JOINTS];
     let mut trail = [0u32; TRAIL];
+    let mut lists = Lists {
+        rows: &mut rows,
+        columns: &mut columns,
+        keys: &mut keys,
+        corners: &mut corners,
+        trail: &mut trail,
+    };
     let mut out = [0u8; ROOM];
     print_report(
+        &rt,
         &input[..n],
         &mut work,
         &mut bitmap,
         &mut blocks,
-        &mut rows,
-        &mut columns,
-        &mut keys,
-        &mut corners,
-        &mut trail,
+        &mut lists,
         &mut out,
     );
 }

@@ -1,58 +1,58 @@
-// What the example programs print with: texts, numbers and lists of them on standard output.
+// What the example programs print and read: lists, answers and refusals on standard output, numbers from standard input.
 #![tactic(auto)]
 
 use refusal::Refusal;
+use std::io::Read;
+use std::{fmt, io};
 
-const OUT: i32 = 1;
+// Each element of a list after a space.
+#[derive(Clone, Copy)]
+pub struct Spaced<'a, T>(pub &'a [T]);
 
-pub fn text(bytes: &[u8]) {
-    io::write_all(OUT, bytes);
-}
-
-pub fn number(n: u32) {
-    io::print_decimal(OUT, n as u64);
-}
-
-// Some number with its sign.
-pub fn signed(z: i32) {
-    if z < 0 {
-        text(b"-");
+impl<T: fmt::Display> fmt::Display for Spaced<'_, T> {
+    fn fmt<W: fmt::Write>(&self, f: &mut fmt::Formatter<W>) -> fmt::Result {
+        for x in self.0 {
+            write!(f, " {x}")?;
+        }
+        Ok(())
     }
-    number(measure::size_of(z));
-}
-
-pub fn refused(refusal: Refusal) {
-    text(b"refused ");
-    number(refusal.number());
-}
-
-fn hex(byte: u8) {
-    io::print_hex(OUT, byte as u64, 2);
-}
-
-fn short(n: u16) {
-    number(n as u32);
 }
 
 // Each byte in hexadecimal, after a space.
-pub fn bytes(list: &[u8]) {
-    for i in 0..list.len() {
-        text(b" ");
-        hex(list[i]);
+#[derive(Clone, Copy)]
+pub struct Hex<'a>(pub &'a [u8]);
+
+impl fmt::Display for Hex<'_> {
+    fn fmt<W: fmt::Write>(&self, f: &mut fmt::Formatter<W>) -> fmt::Result {
+        for byte in self.0 {
+            write!(f, " {byte:02x}")?;
+        }
+        Ok(())
     }
 }
 
-// Each number after a space.
-pub fn shorts(list: &[u16]) {
-    for i in 0..list.len() {
-        text(b" ");
-        short(list[i]);
+// What a call answers, or by what number it is refused.
+#[derive(Drop)]
+pub struct Answer<T>(pub Result<T, Refusal>);
+
+impl<T: fmt::Display> fmt::Display for Answer<T> {
+    fn fmt<W: fmt::Write>(&self, f: &mut fmt::Formatter<W>) -> fmt::Result {
+        match &self.0 {
+            Ok(answer) => write!(f, "{answer}"),
+            Err(refusal) => write!(f, "refused {}", refusal.number()),
+        }
     }
 }
 
-pub fn words(list: &[u32]) {
-    for i in 0..list.len() {
-        text(b" ");
-        number(list[i]);
-    }
+// How many numbers of a list are not zero.
+pub fn nonzero<T: PartialEq + Default + Drop>(list: &[T]) -> usize {
+    let zero = T::default();
+    list.iter().filter(|n| **n != zero).count()
+}
+
+// The next number of a stream: four bytes, least significant first.
+pub fn read_number(input: &mut impl Read) -> io::Result<u32> {
+    let mut bytes = [0; 4];
+    input.read_exact(&mut bytes)?;
+    Ok(u32::from_le_bytes(bytes))
 }

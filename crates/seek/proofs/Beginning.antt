@@ -33,10 +33,10 @@ whole_is zero = refl
 whole_is (suc h) = refl
 
 -- it fits
-pub whole_fits : {h : ℕ} {bytes d : List ℕ} → Ready h bytes d → Fits h 0 0
-whole_fits {h} r =
-    let most : 0 + 2 ^ h ≤ max_side = omega (arith, pow_mono {i = h} {j = max_height} r.low, side_is) in
-    record { low = r.low; rows = most; columns = most }
+pub whole_fits : {h : ℕ} → h ≤ max_height → Fits h 0 0
+whole_fits {h} low =
+    let most : 0 + 2 ^ h ≤ max_side = omega (arith, pow_mono {i = h} {j = max_height} low, side_is) in
+    record { low = low; rows = most; columns = most }
 
 -- its corner is the first cell
 pub whole_corner : (h : ℕ) → Corner h 0 0 root

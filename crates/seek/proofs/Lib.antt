@@ -1,8 +1,10 @@
 pub mod Pairs
+pub mod Works
 pub mod Raising
 pub mod Heaped
 pub mod Lists
 pub mod Packing
+pub mod Lying
 pub mod Quarter
 pub mod Entering
 pub mod Steps

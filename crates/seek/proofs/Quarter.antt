@@ -1,5 +1,5 @@
 -- One quarter more of a box that is opened.
-use Prim.Native.Nat.{ℕ, zero, suc, ◌+◌, ◌*◌, ◌/◌, ◌%◌, ◌^◌, ◌≤◌, ◌<◌}
+use Prim.Native.Nat.{ℕ, zero, suc, ◌+◌, ◌-◌, ◌*◌, ◌/◌, ◌%◌, ◌^◌, ◌≤◌, ◌<◌}
 use mathlib.Core.Path.{◌≡◌, ap, ◌∙◌}
 use mathlib.Core.List.{List, map, map-append}
 use native.Mathlib.Omega.{arith}
@@ -25,18 +25,25 @@ at_most_once zero m h = omega arith
 at_most_once (suc zero) m h = omega arith
 at_most_once (suc (suc n)) m h = absurd (omega arith)
 
-module _ {level row col q top left half : ℕ} (h : q < 4) (side : half ≡ 2 ^ level) (t : top ≡ row + q / 2 * half) (l : left ≡ col + q % 2 * half) where
+-- of a box with levels, one more than its quarters have
+one_more : {level : ℕ} → 1 ≤ level → suc (level - 1) ≡ level
+one_more some = omega arith
+
+module _ {level row col q top left half : ℕ} (some : 1 ≤ level) (h : q < 4) (side : half ≡ 2 ^ (level - 1)) (t : top ≡ row + q / 2 * half) (l : left ≡ col + q % 2 * half) where
   -- a quarter fits where its box does
-  pub quarter_fits : Fits (suc level) row col → Fits level top left
+  pub quarter_fits : Fits level row col → Fits (level - 1) top left
   quarter_fits f =
-      let two = pow-succ' 2 level in
+      let two : 2 ^ level ≡ 2 * 2 ^ (level - 1) = rw (one_more some) at (pow-succ' 2 (level - 1)) in
       record { low = omega (arith, f.low); rows = omega (arith, f.rows, at_most_once (q / 2) half (omega arith)); columns = omega (arith, f.columns, at_most_once (q % 2) half (omega arith)) }
 
   -- its corner
-  pub quarter_corner : (b : Box) → Corner (suc level) row col b → Corner level top left (quarter q b)
+  pub quarter_corner : (b : Box) → Corner level row col b → Corner (level - 1) top left (quarter q b)
   unfolding quarter
   quarter_corner b at =
-      record { rows = t ∙ ap (λ (n : ℕ). row + q / 2 * n) side ∙ quarter_row level b.row row (q / 2) at.rows; columns = l ∙ ap (λ (n : ℕ). col + q % 2 * n) side ∙ quarter_row level b.col col (q % 2) at.columns }
+      record {
+        rows = t ∙ ap (λ (n : ℕ). row + q / 2 * n) side ∙ quarter_row (level - 1) b.row row (q / 2) (rw (one_more some) at.rows);
+        columns = l ∙ ap (λ (n : ℕ). col + q % 2 * n) side ∙ quarter_row (level - 1) b.col col (q % 2) (rw (one_more some) at.columns);
+      }
 
 module _ (p : Place) (level first bits : ℕ) (b : Box) (n : ℕ) (ks cs : List ℕ) where
   -- before the first quarter
@@ -58,6 +65,10 @@ module _ (p : Place) (level first bits : ℕ) (b : Box) (n : ℕ) (ks cs : List 
       rw (← kids_to_all level first bits b) (record { counted = omega (arith, length_kids_to level first bits b 4); added = s })
 
 -- what a group of the bitmap opens to, by its bits and its first child
-pub kids_by_bits : (bytes : List ℕ) (level g bits first : ℕ) (b : Box) → bits ≡ group_at bytes g → first ≡ ones_before bytes (4 * g) + 1 → along (entry level) first (quarters bits b) ≡ kids_at bytes (suc level) g b
+pub kids_by_bits : (bytes : List ℕ) (level g bits first : ℕ) (b : Box) → 1 ≤ level → bits ≡ group_at bytes g → first ≡ ones_before bytes (4 * g) + 1
+    → along (entry (level - 1)) first (quarters bits b) ≡ kids_at bytes level g b
 unfolding kids_at first_child
-kids_by_bits bytes level g bits first b e f = rw (e, f, add-one (ones_before bytes (4 * g)))
+kids_by_bits bytes zero g bits first b some e f = absurd (omega arith)
+kids_by_bits bytes (suc level) g bits first b some e f =
+    let one : suc level - 1 ≡ level = omega arith in
+    rw (one, e, f, add-one (ones_before bytes (4 * g)))

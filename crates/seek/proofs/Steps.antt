@@ -107,11 +107,11 @@ module _ (p : Place) (bytes directory : List ℕ) (t : Tally) (ks cs : List ℕ)
       omega (arith, s.handed_out, pending_room p s.height bytes s.sound s.wanted s.underway x c tk.corner_fits was_there rest (omega (arith, s.handed_out, go.fewer)) least tk.leaves)
 
   -- a box may be opened
-  pub step_box : kind_of x ≡ 0 → BoxOpens bytes directory x c
+  pub step_box : kind_of x ≡ 0 → BoxOpens bytes x c
   step_box box =
       let s = go.searching in
       let b = pending_box p s.height bytes s.sound s.wanted s.underway x c tk.corner_fits was_there box in
-      record { level = b.0; told = s.ready.ranked; is = b.1 }
+      record { level = b.0; is = b.1 }
 
   -- the room for its ones
   pub ones_room : kind_of x ≡ 0 → OnesFit (group_at bytes (id_of x)) (t.pending - 1) (length ks') (length cs')

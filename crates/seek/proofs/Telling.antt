@@ -1,10 +1,10 @@
 -- What a question that may be searched is told, from what its search leaves.
 use Prim.Native.Nat.{ℕ, zero, suc, ◌-◌, ◌≤◌, ◌<◌}
-use mathlib.Core.Path.{◌≡◌, refl, sym, ap, ◌∙◌}
+use mathlib.Core.Path.{◌≡◌, refl, sym, ◌∙◌}
 use mathlib.Core.List.{List, [], ◌∷◌, ◌++◌, append-nil, reverse, reverse-append}
 use native.Mathlib.Omega.{arith}
-use lib.ListN.{length, get_or, take, drop, replicate}
-use lib.Seq.{length-take-le, drop-cons, drop-length}
+use lib.ListN.{length, get_or, drop, replicate}
+use lib.Seq.{drop-cons, drop-length}
 use borrow.Author.Tests.{le-leb, lt-leb}
 use Rattle.refusal.specs.Answer.{Answer, Served, Refused, left_in}
 use Rattle.refusal.proofs.Answers.{left_refused}
@@ -30,10 +30,6 @@ handed_last (suc n) keys room =
 pub none_out : (n : ℕ) → handed_out [] n ≡ replicate n 0
 unfolding handed_out
 none_out n = let all : n - 0 ≡ n = omega arith in rw all (append-nil (replicate {A = ℕ} n 0))
-
--- the first n places are cleared
-pub front_cleared : (n : ℕ) (keys front : List ℕ) → n ≤ length keys → front ≡ replicate (length (take n keys)) 0 → front ++ drop n keys ≡ replicate n 0 ++ drop n keys
-front_cleared n keys front room e = rw (length-take-le n keys room) at (ap (λ (l : List ℕ). l ++ drop n keys) e)
 
 -- ---- what it answers
 

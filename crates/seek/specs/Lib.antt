@@ -1,5 +1,8 @@
+pub mod Lying
+pub mod Spots
 pub mod Pending
 pub mod Pairs
+pub mod Works
 pub mod Opening
 pub mod Step
 pub mod Search

@@ -1,19 +1,17 @@
 -- A box is opened.
-use Rattle.std.specs.Prelude.{ℕ, suc, ◌+◌, ◌*◌, ◌≤◌, ◌<◌, ◌≡◌, List, map, length}
-use Rattle.bitmap.specs.Directory.{directory_of}
+use Rattle.std.specs.Prelude.{ℕ, ◌+◌, ◌*◌, ◌≤◌, ◌<◌, ◌≡◌, List, map, length}
 use Rattle.bitmap.specs.Bits.{ones_of}
 use Rattle.board.specs.Kids.{Entry}
 use Rattle.search.specs.Near.{Place}
 use Rattle.search.specs.Entries.{entry_of, pack_of}
 use Rattle.search.proofs.Boxes.{BoxIs}
-use Rattle.keys.specs.Places.{Fits}
+use Rattle.seek.specs.declared.spot.Spot.{Spot}
 use Rattle.seek.specs.Pending.{Added}
 
--- group g is in the bitmap, whose directory is at hand, and its box, whose quarters have so many levels, fits a board
-pub record Opens (bytes directory : List ℕ) (g level row column : ℕ) : Type 0 where
-  pub told : directory ≡ directory_of bytes
-  pub there : g < 2 * length bytes
-  pub fits : Fits (suc level) row column
+-- a box has levels under it, and its group is in the bitmap
+pub record Opens (bytes : List ℕ) (s : Spot) : Type 0 where
+  pub there : s.group.0 < 2 * length bytes
+  pub some : 1 ≤ s.level
 
 -- both work lists have room for as many entries as there are ones, beside n
 pub record OnesFit (bits n keys corners : ℕ) : Type 0 where
@@ -26,7 +24,6 @@ pub record Opened (p : Place) (es : List Entry) (n : ℕ) (keys corners : List �
   pub added : Added n (map (pack_of p) es) keys corners keys' corners'
 
 -- the entry of key x and corner c is a box that may be opened: what its corner says is its own
-pub record BoxOpens (bytes directory : List ℕ) (x c : ℕ) : Type 0 where
+pub record BoxOpens (bytes : List ℕ) (x c : ℕ) : Type 0 where
   pub level : ℕ
-  pub told : directory ≡ directory_of bytes
   pub is : BoxIs bytes x c (entry_of x c) level

@@ -1,13 +1,12 @@
 -- A question that may be searched: what it is told, and what it leaves in the number lists.
-use Rattle.std.specs.Prelude.{ℕ, ◌-◌, ◌≤◌, ◌<◌, max, ◌≡◌, List, [], ◌∷◌, ◌++◌, reverse, length, replicate, leb}
+use Rattle.std.specs.Prelude.{ℕ, ◌-◌, ◌≤◌, ◌<◌, max, ◌≡◌, Option, None, Some, List, [], ◌∷◌, ◌++◌, reverse, length, replicate, leb}
 use Rattle.refusal.specs.Answer.{Answer, Served, Refused, ◌unless◌, ◌then◌, left_in}
 use Rattle.board.specs.Levels as board
 use Rattle.board.specs.Ready.{Ready}
 use Rattle.search.specs.Question.{answer_keys, trail}
 use Rattle.keys.specs.declared.distance.Place.{Place}
 use Rattle.keys.specs.Places.{place_of, Named}
-use Rattle.seek.specs.declared.answered.Sought.{Sought}
-use Rattle.seek.specs.declared.answered.Sought.TheVariants.{Found, Short}
+use Rattle.seek.specs.declared.answered.Found.{Found}
 
 -- a place that may be named, a board that may be asked, a joint wanted, work lists with room
 pub record Searchable (h : ℕ) (bytes d : List ℕ) (p : Place) (k keys corners : ℕ) : Type 0 where
@@ -23,10 +22,10 @@ searched_of h bytes p k room =
     11 unless leb (length (trail (place_of p) h bytes k)) room
     then Served (length (answer_keys (place_of p) h bytes k) ∷ length (trail (place_of p) h bytes k) ∷ [])
 
--- the paper's number and values for each case of the code's answers
-abbrev pub sought_of : Sought → Answer (List ℕ)
-sought_of (Found joints boxes) = Served (joints ∷ boxes ∷ [])
-sought_of Short = Refused 11
+-- the paper's number and values of what the code finds
+abbrev pub sought_of : Option Found → Answer (List ℕ)
+sought_of (Some found) = Served (found.joints ∷ found.boxes ∷ [])
+sought_of None = Refused 11
 
 -- what was found: nothing after a refusal
 abbrev pub found_in : Answer (List ℕ) → List ℕ → List ℕ

@@ -3,13 +3,15 @@ ghost use Rattle.std.specs.Prelude.{◌≡◌, ◌++◌, ◌-◌, ◌≤◌, len
 ghost use Rattle.seek.specs.Told.{searched_of, sought_of, Told, Searchable};
 
 use crate::find::find;
+use crate::question::Question;
+use board::Board;
 use keys::distance::Place;
 
-// What a search found: the joints and the boxes opened; or its trail is longer than the list for it.
+// What a search found: how many joints, and how many boxes were opened for them.
 #[derive(Clone, Copy)]
-pub enum Sought {
-    Found { joints: u32, boxes: u32 },
-    Short,
+pub struct Found {
+    pub joints: u32,
+    pub boxes: u32,
 }
 
 // All places but the last n are cleared.
@@ -18,33 +20,37 @@ fn clear_before(keys: &mut [u64], n: usize)
     ensures { keys.new ≡ replicate (length keys.old - n) 0 ++ drop (length keys.old - n) keys.old }
 {
     let free = keys.len() - n;
-    lent::clear_longs(&mut keys[..free]);
+    lent::clear(&mut keys[..free]);
 }
 
-// The search of a question: the tests of board, place, count and work lists are behind it.
+// The search of a question: the tests of board, place, count and work lists are behind it. Nothing is found where the trail is longer than
+// its list.
 pub fn answered(
-    height: u32,
-    bytes: &[u8],
-    directory: &[u16],
+    board: Board,
     p: Place,
     k: u32,
     keys: &mut [u64],
     corners: &mut [u32],
     trail: &mut [u32],
-) -> Sought
-    requires { Searchable height bytes.now directory.now p k (length keys.old) (length corners.old) }
-    ensures { Told (searched_of height bytes.now p k (length trail.old)) height bytes.now p k keys.old corners.old trail.old (sought_of result) keys.new corners.new trail.new }
+) -> Option<Found>
+    requires { Searchable board.height board.bytes.now board.directory.now p k (length keys.old) (length corners.old) }
+    ensures { Told (searched_of board.entry.height board.entry.bytes.now p k (length trail.old)) board.entry.height board.entry.bytes.now p k keys.old corners.old trail.old (sought_of result) keys.new corners.new trail.new }
 {
-    let t = find(p, height, bytes, directory, k, keys, corners, trail);
-    lent::clear_words(corners);
+    let q = Question {
+        board,
+        place: p,
+        wanted: k,
+    };
+    let t = find(q, keys, corners, trail);
+    lent::clear(corners);
     if trail.len() < t.opened as usize {
-        lent::clear_longs(keys);
-        lent::clear_words(trail);
-        return Sought::Short;
+        lent::clear(keys);
+        lent::clear(trail);
+        return None;
     }
     clear_before(keys, t.handed as usize);
-    Sought::Found {
+    Some(Found {
         joints: t.handed,
         boxes: t.opened,
-    }
+    })
 }

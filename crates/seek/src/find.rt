@@ -1,74 +1,56 @@
 // The search of a question: from the whole board, step by step, to the last joint or the last entry.
 ghost use Rattle.std.specs.Prelude.{◌≡◌, ◌<◌, ◌≤◌, max, length};
 ghost use Rattle.board.specs.Levels.{joints};
-ghost use Rattle.board.specs.Ready.{Ready};
-ghost use Rattle.keys.specs.Places.{place_of, Named};
+ghost use Rattle.keys.specs.Places.{place_of};
+ghost use Rattle.seek.specs.Works.{SameLists};
 ghost use Rattle.seek.specs.Search.{GoesOn, Begins, Ends};
 
-use crate::open::entered;
-use crate::pending;
-use crate::step::{Tally, turn};
-use bitmap::GroupNo;
-use keys::distance::Place;
+use crate::question::Question;
+use crate::spot::Spot;
+use crate::step::{Tally, step};
+use crate::work::Work;
 
 // Whether another step is to be taken. It stops as soon as more boxes are opened than the trail has room for.
-fn goes_on(t: Tally, k: u32, room: usize) -> bool
-    ensures { GoesOn t k room result }
+fn goes_on(t: Tally, wanted: u32, room: usize) -> bool
+    ensures { GoesOn t wanted room result }
 {
-    let opened = t.opened as usize;
-    let pending = t.pending;
-    let handed = t.handed;
-    if pending == 0 {
-        return false;
-    }
-    if k <= handed {
-        return false;
-    }
-    opened <= room
+    0 < t.pending && t.handed < wanted && t.opened as usize <= room
 }
 
 // Steps are taken from the whole board on, while a joint is wanted and something is pending.
-fn seek(
-    start: Tally,
-    p: Place,
-    bytes: &[u8],
-    directory: &[u16],
-    k: u32,
-    keys: &mut [u64],
-    corners: &mut [u32],
-    trail: &mut [u32],
-) -> Tally
-    requires { (Named p) × (Begins (place_of p) bytes.now directory.now k start keys.old corners.old trail.old) }
-    ensures { (b : Begins (place_of p) bytes.now directory.now k start keys.old corners.old trail.old) → Ends (place_of p) b.height bytes.now k (length trail.old) result keys.new corners.new trail.new (length keys.old) (length corners.old) }
+fn seek(start: Tally, q: Question, work: &mut Work, trail: &mut [u32]) -> Tally
+    requires { (Begins (place_of q.place) q.board.bytes.now q.board.directory.now q.wanted start work.old.keys.now work.old.corners.now trail.old) }
+    ensures same_lists { SameLists work.old work.new }
+    ensures ends { (b : Begins (place_of q.entry.place) q.entry.board.bytes.now q.entry.board.directory.now q.entry.wanted start work.old.keys.now work.old.corners.now trail.old) → Ends (place_of q.entry.place) b.height q.entry.board.bytes.now q.entry.wanted (length trail.old) result work.new.keys.now work.new.corners.now trail.new (length work.old.keys.now) (length work.old.corners.now) }
 {
     let mut t = start;
-    while goes_on(t, k, trail.len()) {
-        t = turn(t, p, bytes, directory, keys, corners, trail);
+    while goes_on(t, q.wanted, trail.len()) {
+        step(&mut t, q, work, trail);
     }
     t
 }
 
-// The search of a board that may be asked: the keys of the joints found stand at the end of the keys, the trail in its list.
-pub(crate) fn find(
-    p: Place,
-    height: u32,
-    bytes: &[u8],
-    directory: &[u16],
-    k: u32,
-    keys: &mut [u64],
-    corners: &mut [u32],
-    trail: &mut [u32],
-) -> Tally
-    requires { (Named p) × (Ready height bytes.now directory.now) × (0 < k) × (max 1 (length (joints height bytes.now)) ≤ length keys.old) × (max 1 (length (joints height bytes.now)) ≤ length corners.old) }
-    ensures { Ends (place_of p) height bytes.now k (length trail.old) result keys.new corners.new trail.new (length keys.old) (length corners.old) }
+// All the steps of a question: in the beginning the whole board is pending.
+fn from_whole(q: Question, work: &mut Work, trail: &mut [u32]) -> Tally
+    requires { (max 1 (length (joints q.board.height q.board.bytes.now)) ≤ length work.old.keys.now) × (max 1 (length (joints q.board.height q.board.bytes.now)) ≤ length work.old.corners.now) }
+    ensures same_lists { SameLists work.old work.new }
+    ensures ends { Ends (place_of q.entry.place) q.entry.board.height q.entry.board.bytes.now q.entry.wanted (length trail.old) result work.new.keys.now work.new.corners.now trail.new (length work.old.keys.now) (length work.old.corners.now) }
 {
-    lent::clear_words(trail);
-    let whole = entered(p, height, GroupNo::root(), 0, 0);
-    pending::add(keys, corners, 0, whole);
+    lent::clear(trail);
+    work.add(0, Spot::whole(q.board.height).entry(q));
     let start = Tally {
         opened: 0,
         pending: 1,
         handed: 0,
     };
-    seek(start, p, bytes, directory, k, keys, corners, trail)
+    seek(start, q, work, trail)
+}
+
+// The search of a board that may be asked: the keys of the joints found stand at the end of the keys, the trail in its list.
+pub(crate) fn find(q: Question, keys: &mut [u64], corners: &mut [u32], trail: &mut [u32]) -> Tally
+    requires { (max 1 (length (joints q.board.height q.board.bytes.now)) ≤ length keys.old) × (max 1 (length (joints q.board.height q.board.bytes.now)) ≤ length corners.old) }
+    ensures { Ends (place_of q.entry.place) q.entry.board.height q.entry.board.bytes.now q.entry.wanted (length trail.old) result keys.new corners.new trail.new (length keys.old) (length corners.old) }
+{
+    let mut work = Work { keys, corners };
+    from_whole(q, &mut work, trail)
 }

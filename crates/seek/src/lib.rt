@@ -6,4 +6,7 @@ mod find;
 mod heap;
 mod open;
 mod pending;
+mod question;
+mod spot;
 mod step;
+mod work;

@@ -1,9 +1,10 @@
 // The pending entries, a heap in the first places of the two work lists.
-ghost use Rattle.std.specs.Prelude.{◌≡◌, ◌<◌, ◌≤◌, ◌∷◌, [], length};
+ghost use Rattle.std.specs.Prelude.{◌≡◌, ◌^◌, ◌<◌, ◌≤◌, ◌∷◌, [], length, get_or, set};
 ghost use Rattle.search.specs.Entries.{pack};
+ghost use Rattle.seek.specs.Works.{SameLists};
 ghost use Rattle.seek.specs.Pending.{Taken, Added};
 
-use crate::heap;
+use crate::work::Work;
 
 // An entry as the work lists hold it: its key, and of a box its levels and its corner.
 #[derive(Clone, Copy)]
@@ -12,28 +13,48 @@ pub(crate) struct Entry {
     pub corner: u32,
 }
 
-// The smallest of the pending entries leaves.
-pub(crate) fn take(keys: &mut [u64], corners: &mut [u32], pending: usize) -> Entry
-    requires { (0 < pending) × (pending ≤ length keys.old) × (pending ≤ length corners.old) }
-    ensures { Taken pending keys.old corners.old result.key result.corner keys.new corners.new }
-{
-    let last = pending - 1;
-    let key = keys[0];
-    let corner = corners[0];
-    keys[0] = keys[last];
-    corners[0] = corners[last];
-    heap::sift_down(keys, corners, last);
-    Entry { key, corner }
-}
+impl Work<'_> {
+    // The entry at a place.
+    pub(crate) fn at(&self, i: usize) -> Entry
+        requires { (i < length self.now.keys.now) × (i < length self.now.corners.now) }
+        ensures { (result.key ≡ get_or self.now.keys.now i 0) × (result.corner ≡ get_or self.now.corners.now i 0) }
+    {
+        Entry {
+            key: self.keys[i],
+            corner: self.corners[i],
+        }
+    }
 
-// One more entry is pending.
-pub(crate) fn add(keys: &mut [u64], corners: &mut [u32], pending: usize, e: Entry)
-    requires { (pending < length keys.old) × (pending < length corners.old) }
-    ensures { Added pending (pack e.key e.corner ∷ []) keys.old corners.old keys.new corners.new }
-{
-    let key = e.key;
-    let corner = e.corner;
-    keys[pending] = key;
-    corners[pending] = corner;
-    heap::sift_up(keys, corners, pending);
+    // An entry is stored at a place.
+    pub(crate) fn put(&mut self, i: usize, e: Entry)
+        requires { (i < length self.old.keys.now) × (i < length self.old.corners.now) }
+        ensures same_lists { SameLists self.old self.new }
+        ensures stored { (self.new.keys.now ≡ set self.old.keys.now i e.key) × (self.new.corners.now ≡ set self.old.corners.now i e.corner) }
+    {
+        self.keys[i] = e.key;
+        self.corners[i] = e.corner;
+    }
+
+    // The smallest of the pending entries leaves.
+    pub(crate) fn take(&mut self, pending: usize) -> Entry
+        requires { (0 < pending) × (pending ≤ length self.old.keys.now) × (pending ≤ length self.old.corners.now) }
+        ensures same_lists { SameLists self.old self.new }
+        ensures taken { Taken pending self.old.keys.now self.old.corners.now result.key result.corner self.new.keys.now self.new.corners.now }
+    {
+        let last = pending - 1;
+        let first = self.at(0);
+        self.put(0, self.at(last));
+        self.sift_down(last);
+        first
+    }
+
+    // One more entry is pending.
+    pub(crate) fn add(&mut self, pending: usize, e: Entry)
+        requires { (pending < length self.old.keys.now) × (pending < length self.old.corners.now) }
+        ensures same_lists { SameLists self.old self.new }
+        ensures added { Added pending (pack e.key e.corner ∷ []) self.old.keys.now self.old.corners.now self.new.keys.now self.new.corners.now }
+    {
+        self.put(pending, e);
+        self.sift_up(pending);
+    }
 }

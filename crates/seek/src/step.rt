@@ -5,15 +5,16 @@ ghost use Rattle.board.specs.Levels.{Box};
 ghost use Rattle.board.specs.Kids.{kids};
 ghost use Rattle.search.specs.Keys.{id_of};
 ghost use Rattle.search.specs.Entries.{entry_of};
-ghost use Rattle.keys.specs.Places.{place_of, Named};
+ghost use Rattle.keys.specs.Places.{place_of};
+ghost use Rattle.seek.specs.Works.{SameLists};
 ghost use Rattle.seek.specs.Opening.{BoxOpens, OnesFit, Opened};
 ghost use Rattle.seek.specs.Step.{Goes, Stepped};
 
-use crate::open::open_box;
-use crate::pending;
 use crate::pending::Entry;
+use crate::question::Question;
+use crate::spot::Spot;
+use crate::work::Work;
 use bitmap::GroupNo;
-use keys::distance::Place;
 use keys::entry;
 
 // Kept through a question and changed as it goes: the boxes opened, the entries pending, the joints handed out.
@@ -24,16 +25,7 @@ pub(crate) struct Tally {
     pub handed: u32,
 }
 
-// A joint's key is kept at the end of the keys, the first in the last place: what is pending leaves that much room.
-fn hand_out(keys: &mut [u64], handed: usize, key: u64)
-    requires { handed < length keys.old }
-    ensures { keys.new ≡ set keys.old (length keys.old - 1 - handed) key }
-{
-    let at = keys.len() - 1 - handed;
-    keys[at] = key;
-}
-
-// A group joins the trail, if the trail has room for it.
+// A group joins the trail, if the trail has room for it. The check finds the proof alone for an index that is tested first, and not for `get_mut`.
 fn join(trail: &mut [u32], opened: usize, g: GroupNo)
     ensures { trail.new ≡ set trail.old opened g.0 }
 {
@@ -42,100 +34,64 @@ fn join(trail: &mut [u32], opened: usize, g: GroupNo)
     }
 }
 
-// The box of an entry that left is opened.
-fn open_entry(
-    p: Place,
-    bytes: &[u8],
-    directory: &[u16],
-    e: Entry,
-    pending: usize,
-    keys: &mut [u64],
-    corners: &mut [u32],
-) -> usize
-    requires { (Named p) × (BoxOpens bytes.now directory.now e.key e.corner) × (OnesFit (group_at bytes.now (id_of e.key)) pending (length keys.old) (length corners.old)) }
-    ensures { Opened (place_of p) (kids bytes.now (entry_of e.key e.corner)) pending keys.old corners.old result keys.new corners.new }
-{
-    let g = entry::group_of(e.key);
-    let level = entry::levels_of(e.corner) - 1;
-    let row = entry::top_of(e.corner);
-    let column = entry::left_of(e.corner);
-    open_box(
-        p, bytes, directory, g, level, row, column, pending, keys, corners,
-    )
+impl Work<'_> {
+    // A joint's key is kept at the end of the keys, the first in the last place: what is pending leaves that much room.
+    fn hand_out(&mut self, handed: usize, key: u64)
+        requires { handed < length self.old.keys.now }
+        ensures same_lists { SameLists self.old self.new }
+        ensures kept { self.new.keys.now ≡ set self.old.keys.now (length self.old.keys.now - 1 - handed) key }
+        ensures corners { self.new.corners.now ≡ self.old.corners.now }
+    {
+        let at = self.keys.len() - 1 - handed;
+        self.keys[at] = key;
+    }
+
+    // The box of an entry that left is opened.
+    fn open_entry(&mut self, q: Question, e: Entry, pending: usize) -> usize
+        requires { (BoxOpens q.board.bytes.now e.key e.corner) × (OnesFit (group_at q.board.bytes.now (id_of e.key)) pending (length self.old.keys.now) (length self.old.corners.now)) }
+        ensures same_lists { SameLists self.old self.new }
+        ensures opened { Opened (place_of q.entry.place) (kids q.entry.board.bytes.now (entry_of e.key e.corner)) pending self.old.keys.now self.old.corners.now result self.new.keys.now self.new.corners.now }
+    {
+        let s = Spot {
+            level: entry::levels_of(e.corner),
+            group: entry::group_of(e.key),
+            row: entry::top_of(e.corner),
+            column: entry::left_of(e.corner),
+        };
+        self.open_box(q, s, pending)
+    }
 }
 
 // The work of a step, with the tally by value.
-pub(crate) fn step_core(
-    t: Tally,
-    p: Place,
-    bytes: &[u8],
-    directory: &[u16],
-    keys: &mut [u64],
-    corners: &mut [u32],
-    trail: &mut [u32],
-) -> Tally
-    requires { (Named p) × (Goes (place_of p) bytes.now directory.now t keys.old corners.old) }
-    ensures { Stepped (place_of p) bytes.now t keys.old corners.old trail.old result keys.new corners.new trail.new }
+pub(crate) fn step_core(t: Tally, q: Question, work: &mut Work, trail: &mut [u32]) -> Tally
+    requires { (Goes (place_of q.place) q.board.bytes.now q.board.directory.now t work.old.keys.now work.old.corners.now) }
+    ensures same_lists { SameLists work.old work.new }
+    ensures stepped { Stepped (place_of q.entry.place) q.entry.board.bytes.now t work.old.keys.now work.old.corners.now trail.old result work.new.keys.now work.new.corners.now trail.new }
 {
-    let opened = t.opened;
-    let pending = t.pending;
-    let handed = t.handed;
-    let e = pending::take(keys, corners, pending as usize);
+    let e = work.take(t.pending as usize);
+    let rest = t.pending - 1;
     if entry::is_joint(e.key) {
-        hand_out(keys, handed as usize, e.key);
+        work.hand_out(t.handed as usize, e.key);
         return Tally {
-            opened: opened,
-            pending: pending - 1,
-            handed: handed + 1,
+            opened: t.opened,
+            pending: rest,
+            handed: t.handed + 1,
         };
     }
-    join(trail, opened as usize, entry::group_of(e.key));
-    let now_pending = open_entry(
-        p,
-        bytes,
-        directory,
-        e,
-        (pending - 1) as usize,
-        keys,
-        corners,
-    );
+    join(trail, t.opened as usize, entry::group_of(e.key));
+    let pending = work.open_entry(q, e, rest as usize);
     Tally {
-        opened: opened + 1,
-        pending: now_pending as u32,
-        handed: handed,
+        opened: t.opened + 1,
+        pending: pending as u32,
+        handed: t.handed,
     }
 }
 
-// The step: the tally is lent, and changed.
-pub(crate) fn step(
-    t: &mut Tally,
-    p: Place,
-    bytes: &[u8],
-    directory: &[u16],
-    keys: &mut [u64],
-    corners: &mut [u32],
-    trail: &mut [u32],
-)
-    requires { (Named p) × (Goes (place_of p) bytes.now directory.now t.old keys.old corners.old) }
-    ensures { Stepped (place_of p) bytes.now t.old keys.old corners.old trail.old t.new keys.new corners.new trail.new }
+// The step, as document 01 has it: the tally is lent, and changed by the work above.
+pub(crate) fn step(t: &mut Tally, q: Question, work: &mut Work, trail: &mut [u32])
+    requires { (Goes (place_of q.place) q.board.bytes.now q.board.directory.now t.old work.old.keys.now work.old.corners.now) }
+    ensures same_lists { SameLists work.old work.new }
+    ensures stepped { Stepped (place_of q.entry.place) q.entry.board.bytes.now t.old work.old.keys.now work.old.corners.now trail.old t.new work.new.keys.now work.new.corners.now trail.new }
 {
-    *t = step_core(*t, p, bytes, directory, keys, corners, trail);
-}
-
-// One turn of the search: a tally of its own is lent to the step.
-pub(crate) fn turn(
-    t: Tally,
-    p: Place,
-    bytes: &[u8],
-    directory: &[u16],
-    keys: &mut [u64],
-    corners: &mut [u32],
-    trail: &mut [u32],
-) -> Tally
-    requires { (Named p) × (Goes (place_of p) bytes.now directory.now t keys.old corners.old) }
-    ensures { Stepped (place_of p) bytes.now t keys.old corners.old trail.old result keys.new corners.new trail.new }
-{
-    let mut m = t;
-    step(&mut m, p, bytes, directory, keys, corners, trail);
-    m
+    *t = step_core(*t, q, work, trail);
 }

@@ -6,6 +6,7 @@ use native.Mathlib.Omega.{arith}
 use lib.ListN.{length, take, drop, replicate, length-replicate}
 use lib.Seq.{take-suc, take_all, take_at}
 use borrow.Author.Tests.{le-leb, lt-leb}
+use Rattle.std.specs.Prelude.{Result, Ok, Err}
 use Rattle.refusal.specs.declared.Refusal.{Refusal}
 use Rattle.refusal.specs.declared.Refusal.TheVariants.{WorkRoom}
 use Rattle.refusal.specs.Numbers.{number_of}
@@ -14,12 +15,10 @@ use Rattle.order.proofs.Sets.{In}
 use Rattle.board.specs.Levels.{Box}
 use Rattle.board.specs.Code.{code_of}
 use Rattle.build.specs.declared.Built.{Built}
-use Rattle.build.specs.declared.Built.TheVariants.{Board as BoardBuilt, Refused as NotBuilt}
 use Rattle.build.specs.Build.{bitmap_of_codes, bitmap_of}
 use Rattle.build.specs.Answers.{codes_built_of}
 use Rattle.build.specs.Promise.{Kept}
 use Rattle.build.proofs.Building.{codes_small}
-use Rattle.sheet.specs.declared.Sheeted.TheVariants.{Board, Refused as Turned}
 use Rattle.records.specs.declared.record.Record.{Record}
 use Rattle.sheet.specs.Sheet.{Verdict, Accepted, RefusedAt, offset, ◌onward◌, sheet_of, height_in, cells_in, joint_offset}
 use Rattle.sheet.specs.Scan.{scan_of}
@@ -51,7 +50,7 @@ module _ (sheet : List ℕ) (rs : List Record) (e : sheet_of sheet ≡ Accepted 
     filled_small z i = codes_small h (cells_in rs) z (rw filled_first at i)
 
     -- what is built from them is built from the cells
-    pub filled_kept : (room : ℕ) (r : Built) (w b : List ℕ) → length m ≡ length work
+    pub filled_kept : (room : ℕ) (r : Result Built Refusal) (w b : List ℕ) → length m ≡ length work
         → Kept (codes_built_of h (take n m) room) (bitmap_of_codes h (take n m)) (length m) room r w b
         → Kept (codes_built_of h (map (code_of h) (cells_in rs)) room) (bitmap_of h (cells_in rs)) (length work) room r w b
     unfolding bitmap_of
@@ -64,6 +63,10 @@ unfolding scan_of
 scan_accepts sheet h n e go =
     went_onward (sheet_of sheet) _ e λ rs k f.
     go rs k (let same : height_in 0 rs ≡ h = cc in same) (let same : length (cells_in rs) ≡ n = cc in same)
+
+-- the offset of the first record after the joints is within the sheet
+pub requests_within : (sheet : List ℕ) (h n : ℕ) → Accepted (h ∷ n ∷ []) ≡ scan_of sheet → joint_offset n < length sheet
+requests_within sheet h n e = scan_accepts sheet h n (sym e) λ rs k height many. rw many at (sheet_shape sheet rs k).long
 
 -- a scan that refuses
 scan_refuses : (sheet : List ℕ) (k at : ℕ) → scan_of sheet ≡ RefusedAt k at → sheet_of sheet ≡ RefusedAt k at
@@ -87,24 +90,20 @@ module _ (sheet work bitmap w b : List ℕ) (cleared : w ≡ replicate (length w
   wide = ap length also ∙ length-replicate (length bitmap) 0
 
   -- refused, with zeros left
-  promise_zeros : (refusal : Refusal) (at : ℕ) → RefusedAt (number_of refusal) at ≡ read_of sheet (length work) (length bitmap) → Promise sheet work bitmap (Turned refusal at) w b
+  promise_zeros : (refusal : Refusal) (at : ℕ) → RefusedAt (number_of refusal) at ≡ read_of sheet (length work) (length bitmap) → Promise sheet work bitmap (Err (record { refusal = refusal; offset = at })) w b
   unfolding left_in
   promise_zeros refusal at e = record { answered = e; work_left = cleared; bitmap_left = rw (← e) also }
 
   -- a sheet that is refused
-  pub promise_refused : (refusal : Refusal) (at : ℕ) → scan_of sheet ≡ RefusedAt (number_of refusal) at → Promise sheet work bitmap (Turned refusal at) w b
+  pub promise_refused : (refusal : Refusal) (at : ℕ) → scan_of sheet ≡ RefusedAt (number_of refusal) at → Promise sheet work bitmap (Err (record { refusal = refusal; offset = at })) w b
   promise_refused refusal at e = promise_zeros refusal at (unfold read_of in rw (scan_refuses sheet (number_of refusal) at e))
 
   module _ (h n : ℕ) (e : scan_of sheet ≡ Accepted (h ∷ n ∷ [])) where
     -- too little work room
-    pub promise_room : length w < n → Promise sheet work bitmap (Turned WorkRoom 0) w b
+    pub promise_room : length w < n → Promise sheet work bitmap (Err (record { refusal = WorkRoom; offset = 0 })) w b
     promise_room short =
         scan_accepts sheet h n e λ rs k height many.
         promise_zeros WorkRoom 0 (unfold read_of board_of in rw (k, lt-leb (length (cells_in rs)) (length work) (omega (arith, long))))
-
-    -- the offset of the first record after the joints is within the sheet
-    pub requests_within : joint_offset n < length sheet
-    requests_within = scan_accepts sheet h n e λ rs k height many. rw many at (sheet_shape sheet rs k).long
 
     module _ (room : n ≤ length w) (w' b' : List ℕ) where
       -- what is answered then
@@ -114,10 +113,10 @@ module _ (sheet work bitmap w b : List ℕ) (cleared : w ≡ replicate (length w
       answers rs k height many = rw (k, le-leb (length (cells_in rs)) (length work) (omega (arith, long)), height, many)
 
       -- a board
-      pub promise_board : (j g l : ℕ) → ((rs : List Record) → sheet_of sheet ≡ Accepted rs → Kept (codes_built_of h (map (code_of h) (cells_in rs)) (length b)) (bitmap_of h (cells_in rs)) (length w) (length b) (BoardBuilt j g l) w' b')
-          → Promise sheet work bitmap (Board h j g l (joint_offset n)) w' b'
+      pub promise_board : (built : Built) → ((rs : List Record) → sheet_of sheet ≡ Accepted rs → Kept (codes_built_of h (map (code_of h) (cells_in rs)) (length b)) (bitmap_of h (cells_in rs)) (length w) (length b) (Ok built) w' b')
+          → Promise sheet work bitmap (Ok (record { height = h; joints = built.joints; boxes = built.boxes; length = built.length; requests = joint_offset n })) w' b'
       unfolding left_in bitmap_in
-      promise_board j g l kept =
+      promise_board built kept =
           scan_accepts sheet h n e λ rs k height many.
           let so = rw (long, wide) at (kept rs k) in
           let said = answers rs k height many ∙ rw (← so.answered) in
@@ -128,8 +127,8 @@ module _ (sheet work bitmap w b : List ℕ) (cleared : w ≡ replicate (length w
           }
 
       -- refused by the board's building: 5 or 18
-      pub promise_not_built : (refusal : Refusal) → ((rs : List Record) → sheet_of sheet ≡ Accepted rs → Kept (codes_built_of h (map (code_of h) (cells_in rs)) (length b)) (bitmap_of h (cells_in rs)) (length w) (length b) (NotBuilt refusal) w' b')
-          → Promise sheet work bitmap (Turned refusal 0) w' b'
+      pub promise_not_built : (refusal : Refusal) → ((rs : List Record) → sheet_of sheet ≡ Accepted rs → Kept (codes_built_of h (map (code_of h) (cells_in rs)) (length b)) (bitmap_of h (cells_in rs)) (length w) (length b) (Err refusal) w' b')
+          → Promise sheet work bitmap (Err (record { refusal = refusal; offset = 0 })) w' b'
       unfolding left_in
       promise_not_built refusal kept =
           scan_accepts sheet h n e λ rs k height many.

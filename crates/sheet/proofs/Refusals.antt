@@ -1,7 +1,7 @@
 -- The numbers that refuse a record and a sheet's records; 10 and 18 are said of the room alone, and with the program's room they never are.
 use Prim.Native.Nat.{ℕ, ◌+◌, ◌≤◌, ◌<◌}
-use mathlib.Core.Bool.{Bool, true, false, ◌&&◌, ◌||◌}
-use mathlib.Core.Path.{◌≡◌, refl, sym, ap, ◌∙◌}
+use mathlib.Core.Bool.{Bool, true, false, ◌&&◌, ◌||◌, cond}
+use mathlib.Core.Path.{◌≡◌, refl, sym, ◌∙◌}
 use mathlib.Core.List.{List}
 use native.Mathlib.Omega.{arith}
 use lib.ListN.{length, get_or, drop}
@@ -9,7 +9,7 @@ use lib.Dec.{leb, eqb}
 use borrow.Author.Tests.{eqb-true, leb-true, leb-false, lt-leb}
 use Rattle.refusal.proofs.Tests.{fails}
 use Rattle.refusal.specs.Answer.{Answer, Served, Refused, ◌unless◌, ◌then◌, ◌into◌}
-use Rattle.refusal.proofs.Answers.{not_both}
+use Rattle.refusal.proofs.Answers.{not_both, same_number}
 use Rattle.measure.specs.Measure.{read_of, read_marked_of}
 use Rattle.measure.proofs.Exact.{read_refuses, read_marked_refuses}
 use Rattle.order.proofs.Cases.{leb_cases}
@@ -20,12 +20,11 @@ use Rattle.records.specs.declared.kind.Kind.{Kind}
 use Rattle.records.specs.declared.kind.Kind.TheVariants.{Board, Joint, Question, Window, End}
 use Rattle.records.specs.declared.kind.Stage.{Stage}
 use Rattle.records.specs.declared.record.Record.{Record}
-use Rattle.records.specs.Kinds.{kind_of, known_of, body_length, in_place}
+use Rattle.records.specs.Kinds.{kind_of, body_length, in_place}
 use Rattle.records.specs.Records.{measure_at, marked_at, body_of, record_at}
 use Rattle.sheet.specs.Sheet.{Verdict, Accepted, RefusedAt, sheet_of, max_sheet, max_records, max_bytes, height_in, cells_in}
 use Rattle.sheet.specs.Promise.{read_of as readSheet}
 use Rattle.sheet.specs.Table.{Fault, wrong, no_end, bytes_after}
-use Rattle.records.proofs.Recording.{known_nothing}
 use Rattle.sheet.proofs.Faults.{sheet_faults}
 use Rattle.sheet.proofs.Shape.{not_accepted}
 use Rattle.sheet.proofs.Theorems.{joint_records, room_enough, too_many}
@@ -98,7 +97,16 @@ of_body_lem End n e = fails e
 
 -- a kind by 14
 pub by_kind : (n b : ℕ) → kind_of b ≡ Refused n → n ≡ 14
-by_kind n b e = let k = known_nothing b (ap known_of e) in let same : n ≡ 14 = cc in same
+unfolding kind_of
+by_kind n b = by_tests (eqb b 1) (eqb b 2) (eqb b 3) (eqb b 4) (eqb b 5)
+  where
+    by_tests : (p q r s t : Bool) → cond p (Served Board) (cond q (Served Joint) (cond r (Served Question) (cond s (Served Window) (cond t (Served End) (Refused 14))))) ≡ Refused n → n ≡ 14
+    by_tests true q r s t e = absurd (not_both (sym e))
+    by_tests false true r s t e = absurd (not_both (sym e))
+    by_tests false false true s t e = absurd (not_both (sym e))
+    by_tests false false false true t e = absurd (not_both (sym e))
+    by_tests false false false false true e = absurd (not_both (sym e))
+    by_tests false false false false false e = sym (same_number e)
 
 -- a record by these, 15 or 16
 pub by_record : (n : ℕ) (stage : Stage) (h : ℕ) (sheet : List ℕ) (at : ℕ) → record_at stage h sheet at ≡ Refused n → of_record n ≡ true

@@ -7,8 +7,10 @@ use native.Mathlib.Omega.{arith}
 use lib.ListN.{length, get_or, drop, length-append}
 use lib.Dec.{leb}
 use borrow.Author.Tests.{le-leb, lt-leb, leb-true, lt-ltb, le-ltb, eq-eqb, ne_eqb}
+use Rattle.std.specs.Prelude.{Some, None, Result, Ok, Err, MatchResult}
 use Rattle.refusal.specs.declared.Refusal.{Refusal}
 use Rattle.refusal.specs.declared.Refusal.TheVariants.{End as NoEnd}
+use Rattle.sheet.specs.declared.RefusedAt.{RefusedAt as Turned}
 use Rattle.refusal.specs.Numbers.{number_of}
 use Rattle.refusal.specs.Answer.{Answer, Served, Refused, ◌unless◌, ◌then◌}
 use Rattle.refusal.proofs.Answers.{not_both, passed}
@@ -19,13 +21,10 @@ use Rattle.records.specs.declared.kind.Stage.TheVariants.{Start}
 use Rattle.records.specs.declared.record.Record.{Record}
 use Rattle.records.specs.declared.record.Record.TheVariants.{Board, Joint, Question, Window, End}
 use Rattle.sheet.specs.declared.scan.Place.{Place}
-use Rattle.sheet.specs.declared.scan.Scanned.{Scanned}
-use Rattle.sheet.specs.declared.scan.Scanned.TheVariants.{Sheet, Refused as NotScanned}
-use Rattle.sheet.specs.declared.scan.Going.TheVariants.{On, Off}
 use Rattle.records.specs.Kinds.{kind_of, body_length, in_place, stage_after}
 use Rattle.records.specs.Records.{body_of, record_at, kind_in, next_after, with_next}
 use Rattle.sheet.specs.Sheet.{Verdict, Accepted, RefusedAt, ◌onward◌, height_after, with_rest, records, sheet_of, max_sheet, height_in, cell_in, cells_in}
-use Rattle.sheet.specs.Scan.{scanned_of, scan_of, is_end, start_place, place_after, from, Ahead, Stepped}
+use Rattle.sheet.specs.Scan.{scan_of, is_end, start_place, place_after, from, Ahead, Stepped}
 use Rattle.records.proofs.Recording.{went_into, kind_of_body}
 
 -- a record that is read, by its two parts
@@ -41,6 +40,16 @@ read_parts at (Refused n) r next e = absurd (not_both e)
 pub read_refused : (at : ℕ) (a : Answer Record) (n : ℕ) → with_next at a ≡ Refused n → a ≡ Refused n
 read_refused at (Served x) n e = absurd (not_both (sym e))
 read_refused at (Refused k) n e = let same : k ≡ n = cc in rw same
+
+-- what a call returns, with its refusal at an offset: what it returned before
+pub turned_ok : {A : Type 0} {x : A} (r : Result A Refusal) (s : Result A Turned) (at : ℕ) → MatchResult r (λ y. s ≡ Ok y) (λ e. s ≡ Err (record { refusal = e; offset = at })) → s ≡ Ok x → r ≡ Ok x
+turned_ok (Ok y) s at m e = cc
+turned_ok (Err y) s at m e = cc
+
+pub turned_err : {A : Type 0} {x : Turned} (r : Result A Refusal) (s : Result A Turned) (at : ℕ) → MatchResult r (λ y. s ≡ Ok y) (λ e. s ≡ Err (record { refusal = e; offset = at })) → s ≡ Err x
+    → (e : Refusal) × (r ≡ Err e) × (x ≡ record { refusal = e; offset = at })
+turned_err (Ok y) s at m e = cc
+turned_err (Err y) s at m e = (y, refl, cc)
 
 -- the height that a body says is one of a board
 low_body : (h : ℕ) (body : List ℕ) (r : Record) → h ≤ max_height → body_of h (kind_in r) body ≡ Served r → height_after h r ≤ max_height
@@ -154,6 +163,14 @@ module _ (sheet : List ℕ) (p : Place) (lt : p.at < length sheet) (n : ℕ) whe
       rw (from_read r e, before_rest sheet (next_after p.at r) r rest go, onward_more rest r (said p.height p.joints))
       (onward_same rest _ _ (said_more p.height p.joints r))
 
+-- a record that is not the end
+not_end : (r : Record) → (r ≡ End → ⊥) → is_end r ≡ false
+not_end (Board h) other = refl
+not_end (Joint r c) other = refl
+not_end (Question k r c) other = refl
+not_end (Window a b c d) other = refl
+not_end End other = absurd (other refl)
+
 -- the end is the record that says so
 pub end_is : (r : Record) → is_end r ≡ true → r ≡ End
 end_is (Board h) e = let z : ◌≡◌ {A = ℕ} 0 1 = cc in absurd (omega arith)
@@ -162,16 +179,12 @@ end_is (Question k r c) e = let z : ◌≡◌ {A = ℕ} 0 1 = cc in absurd (omeg
 end_is (Window a b c d) e = let z : ◌≡◌ {A = ℕ} 0 1 = cc in absurd (omega arith)
 end_is End e = refl
 
--- an answer is no place
-no_place : (s : Scanned) (q : Place) → Off s ≡ On q → ⊥
-no_place s q e = let z : ◌≡◌ {A = ℕ} 0 1 = cc in omega arith
-
 module _ (sheet : List ℕ) (p : Place) (lt : p.at < length sheet) where
   -- a record that is refused is the answer
-  pub stepped_refused : (refusal : Refusal) → with_next p.at (record_at p.stage p.height sheet p.at) ≡ Refused (number_of refusal) → Stepped sheet p (Off (NotScanned refusal p.at))
+  pub stepped_refused : (refusal : Refusal) → with_next p.at (record_at p.stage p.height sheet p.at) ≡ Refused (number_of refusal) → Stepped sheet p (Err (record { refusal = refusal; offset = p.at }))
   stepped_refused refusal e =
       let known = read_refused p.at (record_at p.stage p.height sheet p.at) (number_of refusal) e in
-      record { goes = λ n. from_refused sheet p lt n (number_of refusal) known; farther = λ q e. absurd (no_place _ q e) }
+      record { goes = λ n. from_refused sheet p lt n (number_of refusal) known; farther = λ q e. cc }
 
   module _ (r : Record) (next : ℕ) (e : ◌≡◌ {A = Answer (Record × ℕ)} (with_next p.at (record_at p.stage p.height sheet p.at)) (Served (r, next))) where
     -- the offset of the next record
@@ -179,12 +192,12 @@ module _ (sheet : List ℕ) (p : Place) (lt : p.at < length sheet) where
     next_is = (read_parts p.at (record_at p.stage p.height sheet p.at) r next e).1
 
     -- any record but the end: it goes on after it
-    pub stepped_on : p.height ≤ max_height → p.joints ≤ p.at → is_end r ≡ false → Stepped sheet p (On (place_after p r next))
+    pub stepped_on : p.height ≤ max_height → p.joints ≤ p.at → (r ≡ End → ⊥) → Stepped sheet p (Ok (Some (place_after p r next)))
     unfolding place_after
     stepped_on low few go =
         let known = read_parts p.at (record_at p.stage p.height sheet p.at) r next e in
         record {
-          goes = λ n. rw known.1 (from_on sheet p lt n r go known.0);
+          goes = λ n. rw known.1 (from_on sheet p lt n r (not_end r go) known.0);
           farther = λ q e.
               let same : q ≡ place_after p r next = cc in
               rw same (
@@ -198,25 +211,23 @@ module _ (sheet : List ℕ) (p : Place) (lt : p.at < length sheet) where
         }
 
     -- the end with bytes after it
-    pub stepped_more : is_end r ≡ true → (next ≡ length sheet → ⊥) → Stepped sheet p (Off (NotScanned NoEnd next))
-    stepped_more last more =
+    pub stepped_more : r ≡ End → (next ≡ length sheet → ⊥) → Stepped sheet p (Err (record { refusal = NoEnd; offset = next }))
+    stepped_more same more =
         let known = read_parts p.at (record_at p.stage p.height sheet p.at) r next e in
-        let same = end_is r last in
         let far : next ≡ next_after p.at End = rw same at known.1 in
         record {
           goes = λ n. rw far (from_bytes_after sheet p lt n (rw same at known.0) (λ f. more (far ∙ f)));
-          farther = λ q e. absurd (no_place _ q e);
+          farther = λ q e. cc;
         }
 
     -- the end in its place
-    pub stepped_end : is_end r ≡ true → next ≡ length sheet → Stepped sheet p (Off (Sheet p.height p.joints))
-    stepped_end last none =
+    pub stepped_end : r ≡ End → next ≡ length sheet → Stepped sheet p (Ok None)
+    stepped_end same none =
         let known = read_parts p.at (record_at p.stage p.height sheet p.at) r next e in
-        let same = end_is r last in
         let far : next ≡ next_after p.at End = rw same at known.1 in
         record {
           goes = λ n. from_end sheet p lt n (rw same at known.0) (sym far ∙ none);
-          farther = λ q e. absurd (no_place _ q e);
+          farther = λ q e. cc;
         }
 
 -- the loop's invariant: what is left to do from a place gives the whole answer
@@ -242,7 +253,7 @@ scan_too_long sheet long = rw (lt-leb (length sheet) max_sheet long)
 
 module _ (sheet : List ℕ) (p : Place) (k : Scanning sheet p) where
   -- it goes on
-  pub scanning_on : (q : Place) → p.at < length sheet → Stepped sheet p (On q) → Scanning sheet q
+  pub scanning_on : (q : Place) → p.at < length sheet → Stepped sheet p (Ok (Some q)) → Scanning sheet q
   scanning_on q lt s = by_left k.left.0 k.left.1 k.left.2
     where
       by_left : (n : ℕ) → length sheet ≤ n + p.at → scan_of sheet ≡ from n sheet p → Scanning sheet q
@@ -250,12 +261,12 @@ module _ (sheet : List ℕ) (p : Place) (k : Scanning sheet p) where
       by_left (suc n) few e = record { ahead = (s.farther q refl).1; left = (n, omega (arith, (s.farther q refl).0), e ∙ sym (s.goes n)) }
 
   -- it ends with an answer
-  pub scanning_off : (answer : Scanned) → p.at < length sheet → Stepped sheet p (Off answer) → scanned_of answer ≡ scan_of sheet
-  scanning_off answer lt s = by_left k.left.0 k.left.1 k.left.2
+  pub scanning_off : (answer : Verdict (List ℕ)) → p.at < length sheet → ((n : ℕ) → answer ≡ from (suc n) sheet p) → answer ≡ scan_of sheet
+  scanning_off answer lt goes = by_left k.left.0 k.left.1 k.left.2
     where
-      by_left : (n : ℕ) → length sheet ≤ n + p.at → scan_of sheet ≡ from n sheet p → scanned_of answer ≡ scan_of sheet
+      by_left : (n : ℕ) → length sheet ≤ n + p.at → scan_of sheet ≡ from n sheet p → answer ≡ scan_of sheet
       by_left zero few e = absurd (omega arith)
-      by_left (suc n) few e = s.goes n ∙ sym e
+      by_left (suc n) few e = goes n ∙ sym e
 
   -- there is no end record
   pub scanning_none : length sheet ≤ p.at → RefusedAt 17 (length sheet) ≡ scan_of sheet

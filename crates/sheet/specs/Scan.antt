@@ -1,23 +1,20 @@
 -- For the functions inside: what the scan of a sheet answers, the height and the number of joint records; and how it goes from place to place.
-use Rattle.std.specs.Prelude.{ℕ, suc, ◌+◌, ◌≤◌, ◌<◌, Bool, true, false, ◌≡◌, List, [], ◌∷◌, length}
+use Rattle.std.specs.Prelude.{ℕ, suc, ◌+◌, ◌≤◌, ◌<◌, Bool, true, false, ◌≡◌, List, [], ◌∷◌, length, Option, Some, None, Result, Ok, Err}
 use Rattle.refusal.specs.Numbers.{number_of}
 use Rattle.board.specs.Limits.{max_height}
 use Rattle.records.specs.declared.kind.Stage.TheVariants.{Start}
 use Rattle.records.specs.declared.record.Record.{Record}
 use Rattle.records.specs.declared.record.Record.TheVariants.{Board, Joint, Question, Window, End}
 use Rattle.sheet.specs.declared.scan.Scanned.{Scanned}
-use Rattle.sheet.specs.declared.scan.Scanned.TheVariants.{Sheet, Refused as NotScanned}
+use Rattle.sheet.specs.declared.RefusedAt.{RefusedAt as Turned}
 use Rattle.sheet.specs.declared.scan.Place.{Place}
-use Rattle.sheet.specs.declared.scan.Going.{Going}
-use Rattle.sheet.specs.declared.scan.Going.TheVariants.{On, Off}
 use Rattle.records.specs.Kinds.{stage_after}
 use Rattle.records.specs.Records.{kind_in}
-use Rattle.sheet.specs.Sheet.{Verdict, Accepted, RefusedAt, ◌onward◌, height_after, records, sheet_of, height_in, cell_in, cells_in}
+use Rattle.sheet.specs.Sheet.{Verdict, Accepted, RefusedAt, verdict_by, ◌onward◌, height_after, records, sheet_of, height_in, cell_in, cells_in}
 
 -- the paper's number, offset and values of a scan
-abbrev pub scanned_of : Scanned → Verdict (List ℕ)
-scanned_of (Sheet h joints) = Accepted (h ∷ joints ∷ [])
-scanned_of (NotScanned refusal at) = RefusedAt (number_of refusal) at
+abbrev pub scanned_of : Result Scanned Turned → Verdict (List ℕ)
+scanned_of = verdict_by (λ (scanned : Scanned). scanned.height ∷ scanned.joints ∷ [])
 
 -- the height and the number of joint records of a sheet
 unfoldable pub scan_of : List ℕ → Verdict (List ℕ)
@@ -42,10 +39,11 @@ place_after p r next = record { at = next; stage = stage_after (kind_in r); heig
 unfoldable pub from : ℕ → List ℕ → Place → Verdict (List ℕ)
 from n sheet p = records n p.stage p.height sheet p.at onward λ rs. Accepted (height_in p.height rs ∷ (p.joints + length (cells_in rs)) ∷ [])
 
--- the same after one record
-abbrev pub after_step : ℕ → List ℕ → Going → Verdict (List ℕ)
-after_step n sheet (On p) = from n sheet p
-after_step n sheet (Off answer) = scanned_of answer
+-- the same after one record: from the place after it, or, after the end, by what the records before it gave
+abbrev pub after_step : ℕ → List ℕ → Place → Result (Option Place) Turned → Verdict (List ℕ)
+after_step n sheet p (Ok (Some q)) = from n sheet q
+after_step n sheet p (Ok None) = Accepted (p.height ∷ p.joints ∷ [])
+after_step n sheet p (Err e) = RefusedAt (number_of e.refusal) e.offset
 
 -- a place that can be gone on from
 pub record Ahead (sheet : List ℕ) (p : Place) : Type 0 where
@@ -54,6 +52,6 @@ pub record Ahead (sheet : List ℕ) (p : Place) : Type 0 where
   pub few : p.joints ≤ p.at
 
 -- one step: what is left to do gives what there was to do, and the next place is farther on
-pub record Stepped (sheet : List ℕ) (p : Place) (step : Going) : Type 0 where
-  pub goes : (n : ℕ) → after_step n sheet step ≡ from (suc n) sheet p
-  pub farther : (q : Place) → step ≡ On q → (p.at < q.at) × Ahead sheet q
+pub record Stepped (sheet : List ℕ) (p : Place) (step : Result (Option Place) Turned) : Type 0 where
+  pub goes : (n : ℕ) → after_step n sheet p step ≡ from (suc n) sheet p
+  pub farther : (q : Place) → step ≡ Ok (Some q) → (p.at < q.at) × Ahead sheet q

@@ -1,7 +1,9 @@
 -- A joint sheet: its records, one after the other, up to and with the end.
-use Rattle.std.specs.Prelude.{ℕ, zero, suc, ◌+◌, ◌*◌, List, [], ◌∷◌, ◌++◌, length, leb, ltb, eqb}
+use Rattle.std.specs.Prelude.{ℕ, zero, suc, ◌+◌, ◌*◌, List, [], ◌∷◌, ◌++◌, length, leb, ltb, eqb, Result, Ok, Err}
+use Rattle.refusal.specs.Numbers.{number_of}
 use Rattle.refusal.specs.Answer.{Answer, Served, Refused, ◌unless◌}
 use Rattle.board.specs.Levels.{Box}
+use Rattle.sheet.specs.declared.RefusedAt.{RefusedAt as Turned}
 use Rattle.records.specs.declared.record.Record.{Record}
 use Rattle.records.specs.declared.record.Record.TheVariants.{Board, Joint, Question, Window, End}
 use Rattle.records.specs.declared.kind.Kind.TheVariants.{Board as boardKind, Joint as jointKind}
@@ -31,6 +33,11 @@ pub data Verdict (A : Type 0) : Type 0 where
 abbrev pub offset : {A : Type 0} → ℕ → Answer A → Verdict A
 offset at (Served x) = Accepted x
 offset at (Refused n) = RefusedAt n at
+
+-- what a call returns, said in other words
+abbrev pub verdict_by : {A B : Type 0} → (A → B) → Result A Turned → Verdict B
+verdict_by say (Ok x) = Accepted (say x)
+verdict_by say (Err e) = RefusedAt (number_of e.refusal) e.offset
 
 -- the first refusal; where the first verdict accepts, as is said of what it gives
 infixr 10 ◌onward◌

@@ -13,7 +13,7 @@ ghost use Rattle.sheet.specs.Promise.{Promise};
 use crate::codes::{FIRST_JOINT, JOINT_RECORD};
 use crate::scan::Scanned;
 use build::Built;
-use lent::{clear_bytes, clear_words};
+use lent::clear;
 use refusal::Refusal;
 
 mod codes;
@@ -24,21 +24,31 @@ pub const MAX_SHEET: usize = 65536;
 
 pub const MAX_RECORDS: usize = 5957;
 
-// What reading a sheet answers: of its board the height, the distinct joints, the boxes, the bitmap's length in bytes, and the
-// offset of the first record after the joints; or why and where the sheet is refused.
+// The board of a sheet: its height, the distinct joints, the boxes, the bitmap's length in bytes, and the offset of the first record
+// after the joints.
 #[derive(Clone, Copy)]
-pub enum Sheeted {
-    Board {
-        height: u32,
-        joints: u32,
-        boxes: u32,
-        length: u32,
-        requests: usize,
-    },
-    Refused {
-        refusal: Refusal,
-        offset: usize,
-    },
+pub struct Sheeted {
+    pub height: u32,
+    pub joints: u32,
+    pub boxes: u32,
+    pub length: u32,
+    pub requests: usize,
+}
+
+// Why a sheet is refused, and where.
+#[derive(Clone, Copy)]
+pub struct RefusedAt {
+    pub refusal: Refusal,
+    pub offset: usize,
+}
+
+impl RefusedAt {
+    // Refused as a whole, at offset 0.
+    fn whole(refusal: Refusal) -> RefusedAt
+        ensures { result ≡ record { refusal = refusal; offset = 0 } }
+    {
+        RefusedAt { refusal, offset: 0 }
+    }
 }
 
 // Builds the board of an accepted sheet.
@@ -48,7 +58,7 @@ fn build_joints(
     joints: usize,
     work: &mut [u32],
     bitmap: &mut [u8],
-) -> Built
+) -> Result<Built, Refusal>
     requires { ((rs : List Record) × (sheet_of sheet.now ≡ Accepted rs) × (height_in 0 rs ≡ height) × (length (cells_in rs) ≡ joints)) × (joints ≤ length work.old) }
     ensures { (rs : List Record) → sheet_of sheet.now ≡ Accepted rs → Kept (codes_built_of height (map (code_of height) (cells_in rs)) (length bitmap.old)) (bitmap_of height (cells_in rs)) (length work.old) (length bitmap.old) result work.new bitmap.new }
 {
@@ -57,35 +67,23 @@ fn build_joints(
 }
 
 // Reads a sheet and builds its board. The bitmap's room behind the board, and the work list, are left with zeros.
-pub fn read(sheet: &[u8], work: &mut [u32], bitmap: &mut [u8]) -> Sheeted
+#[tactic(auto, using(crate::proofs::Reading::promise_room, crate::proofs::Reading::requests_within))]
+pub fn read(sheet: &[u8], work: &mut [u32], bitmap: &mut [u8]) -> Result<Sheeted, RefusedAt>
     ensures { Promise sheet.now work.old bitmap.old result work.new bitmap.new }
 {
-    clear_words(work);
-    clear_bytes(bitmap);
-    match scan::scan(sheet) {
-        Scanned::Sheet { height, joints } => {
-            if work.len() < joints {
-                return Sheeted::Refused {
-                    refusal: Refusal::WorkRoom,
-                    offset: 0,
-                };
-            }
-            let requests = FIRST_JOINT + JOINT_RECORD * joints;
-            match build_joints(sheet, height, joints, work, bitmap) {
-                Built::Board {
-                    joints,
-                    boxes,
-                    length,
-                } => Sheeted::Board {
-                    height,
-                    joints,
-                    boxes,
-                    length,
-                    requests,
-                },
-                Built::Refused(refusal) => Sheeted::Refused { refusal, offset: 0 },
-            }
-        }
-        Scanned::Refused { refusal, offset } => Sheeted::Refused { refusal, offset },
+    clear(work);
+    clear(bitmap);
+    let Scanned { height, joints } = scan::scan(sheet)?;
+    if work.len() < joints {
+        return Err(RefusedAt::whole(Refusal::WorkRoom));
     }
+    let requests = FIRST_JOINT + JOINT_RECORD * joints;
+    let built = build_joints(sheet, height, joints, work, bitmap).map_err(RefusedAt::whole)?;
+    Ok(Sheeted {
+        height,
+        joints: built.joints,
+        boxes: built.boxes,
+        length: built.length,
+        requests,
+    })
 }

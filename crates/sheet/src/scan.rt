@@ -1,18 +1,18 @@
 // The scan of a sheet: its records one after the other, up to and with the end. Nothing is written.
 ghost use Rattle.std.specs.Prelude.{◌≡◌, ◌≤◌, ◌<◌, length};
 ghost use Rattle.board.specs.Limits.{max_height};
-ghost use Rattle.sheet.specs.Scan.{is_end, place_after, start_place, scanned_of, scan_of, Stepped};
+ghost use Rattle.sheet.specs.Scan.{place_after, start_place, scanned_of, scan_of, Stepped};
 
-use crate::MAX_SHEET;
+use crate::{MAX_SHEET, RefusedAt};
 use records::kind::Stage;
 use records::record::{Record, Recorded, record_at};
 use refusal::Refusal;
 
-// What a scan says: the height and the number of joint records, or why and where the sheet is refused.
+// What a scan says: the height and the number of joint records.
 #[derive(Clone, Copy)]
-pub(crate) enum Scanned {
-    Sheet { height: u32, joints: usize },
-    Refused { refusal: Refusal, offset: usize },
+pub(crate) struct Scanned {
+    pub height: u32,
+    pub joints: usize,
 }
 
 // How far a sheet is read: the offset of the next record, and what those before it give.
@@ -22,25 +22,6 @@ pub(crate) struct Place {
     pub stage: Stage,
     pub height: u32,
     pub joints: usize,
-}
-
-// After one record: it goes on at a place, or this is the answer.
-#[derive(Clone, Copy)]
-pub(crate) enum Going {
-    On(Place),
-    Off(Scanned),
-}
-
-fn is_end(found: Record) -> bool
-    ensures { result ≡ is_end found }
-{
-    match found {
-        Record::Board { .. } => false,
-        Record::Joint { .. } => false,
-        Record::Question { .. } => false,
-        Record::Window { .. } => false,
-        Record::End => true,
-    }
 }
 
 // The start of a sheet.
@@ -56,93 +37,77 @@ fn start() -> Place
 }
 
 // The place after a record.
-fn after(place: Place, found: Record, next: usize) -> Place
-    requires { place.joints < next }
-    ensures { result ≡ place_after place found next }
+#[tactic(auto, unfolding(crate::specs::Scan::place_after, records::specs::Records::kind_in, crate::specs::Sheet::height_after, crate::specs::Sheet::cell_in))]
+fn after(place: Place, read: Recorded) -> Place
+    requires { place.joints < read.next }
+    ensures { result ≡ place_after place read.record read.next }
 {
-    match found {
+    let at = read.next;
+    match read.record {
         Record::Board { height } => Place {
-            at: next,
+            at,
             stage: Stage::Joints,
             height,
-            joints: place.joints,
+            ..place
         },
         Record::Joint { .. } => Place {
-            at: next,
+            at,
             stage: Stage::Joints,
-            height: place.height,
             joints: place.joints + 1,
+            ..place
         },
-        Record::Question { .. } => Place {
-            at: next,
+        Record::Question { .. } | Record::Window { .. } | Record::End => Place {
+            at,
             stage: Stage::Requests,
-            height: place.height,
-            joints: place.joints,
-        },
-        Record::Window { .. } => Place {
-            at: next,
-            stage: Stage::Requests,
-            height: place.height,
-            joints: place.joints,
-        },
-        Record::End => Place {
-            at: next,
-            stage: Stage::Requests,
-            height: place.height,
-            joints: place.joints,
+            ..place
         },
     }
 }
 
-// One record: a refusal is the answer, and so is the end, after which no byte may follow.
-fn step(sheet: &[u8], place: Place) -> Going
+// One record: the place after it, or none after the end, which no byte may follow.
+#[tactic(auto, using(crate::proofs::Scanning::stepped_end, crate::proofs::Scanning::stepped_more, crate::proofs::Scanning::stepped_on, crate::proofs::Scanning::next_is))]
+fn step(sheet: &[u8], place: Place) -> Result<Option<Place>, RefusedAt>
     requires { (place.at < length sheet.now) × (place.height ≤ max_height) × (place.joints ≤ place.at) }
     ensures { Stepped sheet.now place result }
 {
-    let at = place.at;
-    let stage = place.stage;
-    match record_at(sheet, at, stage, place.height) {
-        Recorded::Record { record, next } => {
-            if !is_end(record) {
-                return Going::On(after(place, record, next));
-            }
-            if next != sheet.len() {
-                return Going::Off(Scanned::Refused {
-                    refusal: Refusal::End,
-                    offset: next,
-                });
-            }
-            Going::Off(Scanned::Sheet {
-                height: place.height,
-                joints: place.joints,
-            })
-        }
-        Recorded::Refused(refusal) => Going::Off(Scanned::Refused {
+    let read = record_at(sheet, place.at, place.stage, place.height).map_err(
+        |refusal| RefusedAt {
             refusal,
-            offset: at,
+            offset: place.at,
+        },
+    )?;
+    match read.record {
+        Record::End if read.next == sheet.len() => Ok(None),
+        Record::End => Err(RefusedAt {
+            refusal: Refusal::End,
+            offset: read.next,
         }),
+        _ => Ok(Some(after(place, read))),
     }
 }
 
 // The scan of any bytes.
-pub(crate) fn scan(sheet: &[u8]) -> Scanned
+#[tactic(auto, using(crate::proofs::Scanning::scanning_start, crate::proofs::Scanning::scan_too_long, crate::proofs::Scanning::scanning_on), unfolding(crate::specs::Sheet::max_sheet))]
+pub(crate) fn scan(sheet: &[u8]) -> Result<Scanned, RefusedAt>
     ensures { scanned_of result ≡ scan_of sheet.now }
 {
     if MAX_SHEET < sheet.len() {
-        return Scanned::Refused {
-            refusal: Refusal::SheetLength,
-            offset: 0,
-        };
+        return Err(RefusedAt::whole(Refusal::SheetLength));
     }
     let mut place = start();
     while place.at < sheet.len() {
-        match step(sheet, place) {
-            Going::On(next) => place = next,
-            Going::Off(answer) => return answer,
+        match step(sheet, place)? {
+            Some(next) => place = next,
+            None => {
+                return Ok(Scanned {
+                    height: place.height,
+                    joints: place.joints,
+                });
+            }
         }
     }
-    Scanned::Refused {
+    Err(RefusedAt {
         refusal: Refusal::End,
         offset: sheet.len(),
-    }
+    })
 }

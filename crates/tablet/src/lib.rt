@@ -1,5 +1,5 @@
 // What the bench tablet calls, with numbers and byte strings only. Each call returns the number of refusal, 0 where it is served; the values go
-// into numbers that the caller lends, and are zero after a refusal.
+// into numbers that the caller lends, one by one as C has them, and are zero after a refusal.
 #![tactic(auto)]
 
 ghost use Rattle.std.specs.Prelude.{◌≡◌, [], ◌∷◌, pos, length};
@@ -10,9 +10,7 @@ ghost use Rattle.sheet.specs.Sheet.{max_records, sheet_of};
 ghost use Rattle.sheet.specs.Promise.{answer_in, bitmap_in, read_of as sheetReadOf};
 ghost use Rattle.tablet.specs.Sheets.{number_at, values_at};
 
-use board::check::Checked;
-use measure::{Marked, Reading};
-use sheet::{MAX_RECORDS, Sheeted};
+use sheet::MAX_RECORDS;
 
 // The number of a served call.
 const SERVED: u32 = 0;
@@ -22,11 +20,11 @@ pub fn joint_board_read_measure(text: &[u8], value: &mut u32) -> u32
     ensures { (result ≡ number_in (read_of text.now)) × (value.new ≡ value_in 0 (read_of text.now)) }
 {
     match measure::read(text) {
-        Reading::Value(n) => {
+        Ok(n) => {
             *value = n;
             SERVED
         }
-        Reading::Refused(refusal) => {
+        Err(refusal) => {
             *value = 0;
             refusal.number()
         }
@@ -38,11 +36,11 @@ pub fn joint_board_read_marked(text: &[u8], signed: &mut i32) -> u32
     ensures { (result ≡ number_in (read_marked_of text.now)) × (signed.new ≡ value_in (pos 0) (read_marked_of text.now)) }
 {
     match measure::read_marked(text) {
-        Marked::Value(z) => {
+        Ok(z) => {
             *signed = z;
             SERVED
         }
-        Marked::Refused(refusal) => {
+        Err(refusal) => {
             *signed = 0;
             refusal.number()
         }
@@ -54,15 +52,12 @@ pub fn joint_board_check(height: u32, bytes: &[u8], joints: &mut u32, boxes: &mu
     ensures { (result ≡ number_in (check_of height bytes.now)) × (joints.new ∷ boxes.new ∷ [] ≡ value_in (0 ∷ 0 ∷ []) (check_of height bytes.now)) }
 {
     match board::check::check(height, bytes) {
-        Checked::Board {
-            joints: j,
-            boxes: b,
-        } => {
-            *joints = j;
-            *boxes = b;
+        Ok(counts) => {
+            *joints = counts.joints;
+            *boxes = counts.boxes;
             SERVED
         }
-        Checked::Refused(refusal) => {
+        Err(refusal) => {
             *joints = 0;
             *boxes = 0;
             refusal.number()
@@ -85,30 +80,21 @@ pub fn joint_board_build(
 {
     let mut work = [0u32; MAX_RECORDS];
     match sheet::read(sheet, &mut work, bitmap) {
-        Sheeted::Board {
-            height: h,
-            joints: j,
-            boxes: b,
-            length: l,
-            requests: q,
-        } => {
-            *height = h;
-            *joints = j;
-            *boxes = b;
-            *size = l;
-            *offset = q;
+        Ok(read) => {
+            *height = read.height;
+            *joints = read.joints;
+            *boxes = read.boxes;
+            *size = read.length;
+            *offset = read.requests;
             SERVED
         }
-        Sheeted::Refused {
-            refusal,
-            offset: at,
-        } => {
+        Err(at) => {
             *height = 0;
             *joints = 0;
             *boxes = 0;
             *size = 0;
-            *offset = at;
-            refusal.number()
+            *offset = at.offset;
+            at.refusal.number()
         }
     }
 }

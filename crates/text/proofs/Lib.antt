@@ -1,4 +1,5 @@
 pub mod Digits
 pub mod Putting
+pub mod Paging
 pub mod Inside
 pub mod Determined

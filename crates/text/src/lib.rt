@@ -1,5 +1,7 @@
-// The lines of a report as text: words and decimal numbers, put as bytes into a lent buffer.
+// The lines of a report as text: words and decimal numbers, put as bytes on a page.
 #![tactic(auto)]
 
-pub mod line;
-mod text;
+mod line;
+mod page;
+
+pub use page::Page;

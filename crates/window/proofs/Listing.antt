@@ -106,9 +106,9 @@ unfolding quarter
 quarter_box s q c t i = box_path _ _ i.2 i.3
 
 -- a quarter whose bit is one stands at its place
-pub quarter_stood : (bytes d : List ℕ) (s : Spot) (q c : ℕ) (t : Spot) → Stood bytes d s → 1 ≤ s.left → q < 4
-    → IsChild bytes s q c → IsQuarter s q c t → 1 ≤ bit_of (group_at bytes s.group.0) q → Stood bytes d t
-quarter_stood bytes d s q c t st l k e i one =
+pub quarter_stood : (bytes : List ℕ) (s : Spot) (q c : ℕ) (t : Spot) → Stood bytes s → 1 ≤ s.left → q < 4
+    → IsChild bytes s q c → IsQuarter s q c t → 1 ≤ bit_of (group_at bytes s.group.0) q → Stood bytes t
+quarter_stood bytes s q c t st l k e i one =
     let g : ℕ = s.group.0 in
     let bit : bit_at bytes (4 * g + q) ≡ 1 = omega (arith, bit_of_group bytes g q k, bit_small (group_at bytes g) q) in
     let at : t.group.0 ≡ rank bytes (4 * g + q) = i.1 ∙ e ∙ sym (rank_child bytes g q k bit) in
@@ -161,16 +161,17 @@ module _ (p : Pane) (bytes : List ℕ) (s : Spot) where
       = ap (under_to bytes (s.left - 1) s.group.0 (box_of s)) e ∙ under_four bytes (s.left - 1) s.group.0 (box_of s) ∙ ap (λ (x : ℕ). under bytes x s.group.0 (box_of s)) (sym down) in
       rw (← all) a
 
--- a list where the bit is zero is empty
-pub if_one_none : {A : Type 0} (n : ℕ) (xs : List A) → n ≡ 0 → if_one n xs ≡ []
-unfolding if_one
-if_one_none n xs e = rw e
-
--- and where it is not, it is whole
+-- where the bit is one, a list is whole
 pub if_one_some : {A : Type 0} (n : ℕ) (xs : List A) → 1 ≤ n → if_one n xs ≡ xs
 unfolding if_one
 if_one_some zero xs h = absurd (omega arith)
 if_one_some (suc n) xs h = refl
+
+-- a quarter that is not there, or that has nothing in the pane, is not listed
+pub listed_beside : (p : Pane) (one : ℕ) (bs : List Box) (n : ℕ) (rows columns : List ℕ) → (1 ≤ one → keep (within p) bs ≡ []) → Listed p (if_one one bs) n n rows rows columns columns
+unfolding if_one
+listed_beside p zero bs n rows columns e = listed_none p n rows columns
+listed_beside p (suc one) bs n rows columns e = listed_nothing p bs n rows columns (e (omega arith))
 
 -- with no level left a spot is a cell
 pub spot_cell : (bytes : List ℕ) (s : Spot) → s.left ≡ 0 → under_spot bytes s ≡ box_of s ∷ []

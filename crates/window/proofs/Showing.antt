@@ -10,6 +10,8 @@ use lib.ListN.{length, drop, replicate, length-map, length-replicate}
 use lib.Seq.{sets, sets-eq}
 use lib.Dec.{leb, ltb}
 use borrow.Author.Tests.{ltb-true, le-leb, lt-leb, lt-ltb}
+use Rattle.std.specs.Prelude.{Result, Ok, Err}
+use Rattle.refusal.specs.declared.Refusal.{Refusal}
 use Rattle.refusal.proofs.Tests.{both}
 use Rattle.refusal.specs.Answer.{Answer, Served, Refused, left_in}
 use Rattle.refusal.specs.declared.Refusal.TheVariants.{AnswerRoom}
@@ -20,8 +22,6 @@ use Rattle.bitmap.specs.declared.GroupNo.{GroupNo}
 use Rattle.bitmap.specs.Directory.{directory_of, alike}
 use Rattle.window.specs.declared.Pane.{Pane}
 use Rattle.window.specs.declared.Spot.{Spot}
-use Rattle.window.specs.declared.Windowed.{Windowed}
-use Rattle.window.specs.declared.Windowed.TheVariants.{Cells, Refused as Turned}
 use Rattle.board.specs.Limits.{max_height, max_joints}
 use Rattle.board.specs.Levels.{Box, joints}
 use Rattle.board.specs.Check.{check_of}
@@ -73,15 +73,20 @@ unfolding roomed
 roomed_columns n rows columns a b = rw (le-leb n rows a, lt-leb n columns b)
 
 -- a refusal with both lists cleared
-pub shown_refused : (a : Answer ℕ) (cells : List Box) (r : Windowed) (n : ℕ) (rows rows' columns columns' : List ℕ) → a ≡ Refused n → window_numbers r ≡ Refused n
+pub shown_refused : (a : Answer ℕ) (cells : List Box) (r : Result ℕ Refusal) (n : ℕ) (rows rows' columns columns' : List ℕ) → a ≡ Refused n → window_numbers r ≡ Refused n
     → rows' ≡ replicate (length rows) 0 → columns' ≡ replicate (length columns) 0 → Shown a cells r rows rows' columns columns'
 unfolding left_in
 shown_refused a cells r n rows rows' columns columns' e answer zeros zeros' = record { returned = rw e answer; rows_left = rw e zeros; columns_left = rw e zeros' }
 
+-- lists that are the same show the same
+pub shown_same : {a : Answer ℕ} {cells : List Box} {r : Result ℕ Refusal} {rows rows' rows'' columns columns' columns'' : List ℕ}
+    → Shown a cells r rows rows' columns columns' → rows'' ≡ rows' → columns'' ≡ columns' → Shown a cells r rows rows'' columns columns''
+shown_same s e f = record { returned = s.returned; rows_left = e ∙ s.rows_left; columns_left = f ∙ s.columns_left }
+
 -- an answer with what was found in both lists
 pub shown_served : (a : Answer ℕ) (cells : List Box) (n : ℕ) (rows rows' columns columns' : List ℕ) → a ≡ Served n
     → rows ≡ replicate (length rows) 0 → columns ≡ replicate (length columns) 0 → length cells ≤ length rows → length cells ≤ length columns
-    → rows' ≡ sets rows 0 (map row_of cells) → columns' ≡ sets columns 0 (map column_of cells) → Shown a cells (Cells n) rows rows' columns columns'
+    → rows' ≡ sets rows 0 (map row_of cells) → columns' ≡ sets columns 0 (map column_of cells) → Shown a cells (Ok n) rows rows' columns columns'
 unfolding left_in
 shown_served a cells n rows rows' columns columns' e zeros zeros' few few' i i' = record {
   returned = rw e refl;
@@ -122,10 +127,10 @@ found_raised w h bytes = keep_same (inside w) (within (raised w)) (inside_raised
 
 module _ (h : ℕ) (bytes d : List ℕ) (s : Spot) (i : IsWhole h s) where
   -- it is a box of the board
-  pub whole_stood : Ready h bytes d → Stood bytes d s
+  pub whole_stood : Ready h bytes d → Stood bytes s
   whole_stood r =
       let none : h - s.left ≡ 0 = omega (arith, i.0) in
-      record { height = h; ready = r; tall = omega (arith, i.0); stands = rw (none, i.1, i.2, i.3) (stands_root bytes) }
+      record { height = h; ready = rw r.ranked at r; tall = omega (arith, i.0); stands = rw (none, i.1, i.2, i.3) (stands_root bytes) }
 
   -- under it are the board's joints
   pub whole_under : under_spot bytes s ≡ joints h bytes
@@ -149,7 +154,7 @@ module _ (p : Pane) (h : ℕ) (bytes d : List ℕ) (s : Spot) (i : IsWhole h s) 
 
   -- with room for all of them
   pub pane_served : rows ≡ replicate (length rows) 0 → columns ≡ replicate (length columns) 0 → r ≤ length rows' → r ≤ length columns'
-      → Shown (roomed (length cells) (length rows) (length columns)) cells (Cells r) rows rows' columns columns'
+      → Shown (roomed (length cells) (length rows) (length columns)) cells (Ok r) rows rows' columns columns'
   pane_served zeros zeros' few few' =
       let same = listed_lengths p (joints h bytes) 0 r rows rows' columns columns' whole_listed in
       let n : r ≡ length cells = rw zero-add at whole_listed.count in
@@ -160,11 +165,11 @@ module _ (p : Pane) (h : ℕ) (bytes d : List ℕ) (s : Spot) (i : IsWhole h s) 
   -- without it, when both are cleared
   pub pane_refused : (rows'' columns'' : List ℕ) → rows'' ≡ replicate (length rows') 0 → columns'' ≡ replicate (length columns') 0
       → ((r ≤ length rows') × (length columns' < r)) ⊎ (length rows' < r)
-      → Shown (roomed (length cells) (length rows) (length columns)) cells (Turned AnswerRoom) rows rows'' columns columns''
+      → Shown (roomed (length cells) (length rows) (length columns)) cells (Err AnswerRoom) rows rows'' columns columns''
   pane_refused rows'' columns'' zeros zeros' short =
       let same = listed_lengths p (joints h bytes) 0 r rows rows' columns columns' whole_listed in
       let n : r ≡ length cells = rw zero-add at whole_listed.count in
-      shown_refused (roomed (length cells) (length rows) (length columns)) cells (Turned AnswerRoom) 9 rows rows'' columns columns''
+      shown_refused (roomed (length cells) (length rows) (length columns)) cells (Err AnswerRoom) 9 rows rows'' columns columns''
       (⊎_elim (λ v. roomed_columns (length cells) (length rows) (length columns) (omega (arith, v.0, same.0)) (omega (arith, v.1, same.1)))
       (λ v. roomed_rows (length cells) (length rows) (length columns) (omega (arith, v, same.0))) short)
       refl (rw same.0 at zeros) (rw same.1 at zeros')
@@ -181,20 +186,20 @@ module _ (h : ℕ) (bytes d : List ℕ) (w : Window) (rows columns : ℕ) {x : L
   window_off f = goes_on (check_of h bytes) 6 (alike d (directory_of bytes)) _ e ∙ rw f
 
   -- with ends that do it is the room that decides
-  pub window_on : ends_fit h w.top w.bottom ≡ true → ends_fit h w.left w.right ≡ true → window_of h bytes d w rows columns ≡ roomed (length (found w h bytes)) rows columns
+  pub window_on : window_fits h w ≡ true → window_of h bytes d w rows columns ≡ roomed (length (found w h bytes)) rows columns
   unfolding asked_of window_of
-  window_on f g = goes_on (check_of h bytes) 6 (alike d (directory_of bytes)) _ e ∙ rw (f, g)
+  window_on f = goes_on (check_of h bytes) 6 (alike d (directory_of bytes)) _ e ∙ rw f
 
   -- then it is what is shown of its raised spans, into lists that were cleared
-  pub window_shown : (r : Windowed) (was was' rows₁ rows' columns₁ columns' : List ℕ) → length was ≡ rows → length was' ≡ columns
-      → rows₁ ≡ replicate (length was) 0 → columns₁ ≡ replicate (length was') 0 → ends_fit h w.top w.bottom ≡ true → ends_fit h w.left w.right ≡ true
+  pub window_shown : (r : Result ℕ Refusal) (was was' rows₁ rows' columns₁ columns' : List ℕ) → length was ≡ rows → length was' ≡ columns
+      → rows₁ ≡ replicate (length was) 0 → columns₁ ≡ replicate (length was') 0 → window_fits h w ≡ true
       → Shown (roomed (length (keep (within (raised w)) (joints h bytes))) (length rows₁) (length columns₁)) (keep (within (raised w)) (joints h bytes)) r rows₁ rows' columns₁ columns'
       → Shown (window_of h bytes d w rows columns) (found w h bytes) r was rows' was' columns'
-  window_shown r was was' rows₁ rows' columns₁ columns' i i' zeros zeros' f g x =
+  window_shown r was was' rows₁ rows' columns₁ columns' i i' zeros zeros' f x =
       let n : length rows₁ ≡ rows = (cleared was rows₁ zeros).1 ∙ i in
       let n' : length columns₁ ≡ columns = (cleared was' columns₁ zeros').1 ∙ i' in
       record {
-        returned = rw (window_on f g, found_raised w h bytes) (rw (n, n') at x.returned);
-        rows_left = rw (window_on f g, found_raised w h bytes, i) (rw (n, n') at x.rows_left);
-        columns_left = rw (window_on f g, found_raised w h bytes, i') (rw (n, n') at x.columns_left);
+        returned = rw (window_on f, found_raised w h bytes) (rw (n, n') at x.returned);
+        rows_left = rw (window_on f, found_raised w h bytes, i) (rw (n, n') at x.rows_left);
+        columns_left = rw (window_on f, found_raised w h bytes, i') (rw (n, n') at x.columns_left);
       }

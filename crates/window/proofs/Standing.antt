@@ -12,9 +12,9 @@ use Rattle.board.proofs.Down.{stands_within}
 use Rattle.board.proofs.Under.{stands_small}
 
 -- a box's group lies within the bytes
-pub group_within : (bytes d : List ℕ) (s : Spot) → Stood bytes d s → 1 ≤ s.left → s.group.0 < 2 * length bytes
-group_within bytes d s t l =
-    (stands_within t.height bytes d (t.height - s.left) s.group.0 (box_of s) t.ready t.stands (omega (arith, t.tall, t.ready.valid.tall))).0
+pub group_within : (bytes : List ℕ) (s : Spot) → Stood bytes s → 1 ≤ s.left → s.group.0 < 2 * length bytes
+group_within bytes s t l =
+    (stands_within t.height bytes _ (t.height - s.left) s.group.0 (box_of s) t.ready t.stands (omega (arith, t.tall, t.ready.valid.tall))).0
 
 -- a power of two in two parts
 pow_add : (a b : ℕ) → 2 ^ (a + b) ≡ 2 ^ a * 2 ^ b
@@ -37,8 +37,8 @@ pub record Fits (s : Spot) : Type 0 where
   pub column : s.column < 2 ^ max_height
 
 -- they are those of the largest board at most
-pub stood_fits : (bytes d : List ℕ) (s : Spot) → Stood bytes d s → Fits s
-stood_fits bytes d s t =
+pub stood_fits : (bytes : List ℕ) (s : Spot) → Stood bytes s → Fits s
+stood_fits bytes s t =
     let small = stands_small bytes (t.height - s.left) s.group.0 (box_of s) t.stands in
     let most : 2 ^ t.height ≤ 2 ^ max_height = pow-le-pow_right {n = 2} (omega arith) {i = t.height} {j = max_height} t.ready.low in
     let less : 2 ^ (t.height - s.left) ≤ 2 ^ max_height = pow-le-pow_right {n = 2} (omega arith) {i = t.height - s.left} {j = max_height} (omega (arith, t.ready.low)) in

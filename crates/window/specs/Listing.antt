@@ -1,6 +1,7 @@
 -- How a window's cells are listed: a box by its quarters, and what that does to the row list and the column list.
 use Rattle.std.specs.Prelude.{ℕ, ◌+◌, ◌-◌, ◌≤◌, ◌≡◌, List, map, length}
 use Rattle.std.proofs.lemmas.List.Edits.{sets}
+use Rattle.bitmap.specs.Directory.{directory_of}
 use Rattle.order.specs.Order.{keep}
 use Rattle.window.specs.declared.Pane.{Pane}
 use Rattle.window.specs.declared.Spot.{Spot}
@@ -24,9 +25,9 @@ box_of s = record { row = s.row; col = s.column }
 abbrev pub under_spot : List ℕ → Spot → List Box
 under_spot bytes s = under bytes s.left s.group.0 (box_of s)
 
--- it is a box, or a joint, of a board that may be asked
-pub record Stood (bytes directory : List ℕ) (s : Spot) : Type 0 where
+-- it is a box, or a joint, of a board that may be asked with its own directory
+pub record Stood (bytes : List ℕ) (s : Spot) : Type 0 where
   pub height : ℕ
-  pub ready : Ready height bytes directory
+  pub ready : Ready height bytes (directory_of bytes)
   pub tall : s.left ≤ height
   pub stands : Stands bytes (height - s.left) s.group.0 (box_of s)

@@ -1,11 +1,10 @@
 -- Windows: the stored cells inside one, and what a call that asks for them answers and leaves in its two lists.
-use Rattle.std.specs.Prelude.{ℕ, ◌^◌, Bool, ◌&&◌, ◌≡◌, List, map, length, leb, ltb}
-use Rattle.refusal.specs.Numbers.{number_of}
-use Rattle.refusal.specs.Answer.{Answer, Served, Refused, ◌unless◌, ◌then◌, left_in}
+use Rattle.std.specs.Prelude.{ℕ, ◌^◌, Bool, ◌&&◌, ◌≡◌, Result, List, map, length, leb, ltb}
+use Rattle.refusal.specs.declared.Refusal.{Refusal}
+use Rattle.refusal.specs.Results.{answer_of}
+use Rattle.refusal.specs.Answer.{Answer, Served, ◌unless◌, ◌then◌, left_in}
 use Rattle.order.specs.Order.{keep}
 use Rattle.bitmap.specs.Directory.{directory_of, alike}
-use Rattle.window.specs.declared.Windowed.{Windowed}
-use Rattle.window.specs.declared.Windowed.TheVariants.{Cells, Refused as Turned}
 use Rattle.board.specs.Levels.{Box, joints}
 use Rattle.board.specs.Check.{check_of}
 
@@ -49,9 +48,8 @@ window_of h bytes directory w rows columns =
     then roomed (length (found w h bytes)) rows columns
 
 -- the paper's number and value
-abbrev pub window_numbers : Windowed → Answer ℕ
-window_numbers (Cells n) = Served n
-window_numbers (Turned refusal) = Refused (number_of refusal)
+abbrev pub window_numbers : Result ℕ Refusal → Answer ℕ
+window_numbers = answer_of
 
 -- the row of a cell
 abbrev pub row_of : Box → ℕ
@@ -62,7 +60,7 @@ abbrev pub column_of : Box → ℕ
 column_of c = c.col
 
 -- what is returned and left in the two lists, for an answer and the cells that it speaks of
-pub record Shown (answer : Answer ℕ) (cells : List Box) (r : Windowed) (rows rows' columns columns' : List ℕ) : Type 0 where
+pub record Shown (answer : Answer ℕ) (cells : List Box) (r : Result ℕ Refusal) (rows rows' columns columns' : List ℕ) : Type 0 where
   pub returned : window_numbers r ≡ answer
   pub rows_left : rows' ≡ left_in answer (map row_of cells) (length rows)
   pub columns_left : columns' ≡ left_in answer (map column_of cells) (length columns)

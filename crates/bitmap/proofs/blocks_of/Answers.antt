@@ -1,8 +1,8 @@
--- The sum fits, since lengths are below 2 ^ 63.
-use borrow.Author.Rules.{rules}
+-- Rounded up, as the definition has it.
+use native.Mathlib.Omega.{arith}
 use Rattle.bitmap.specs.Directory.{blocks}
 use Rattle.bitmap.proofs.blocks_of.Goals as goal
 
 pub returns : goal.returns
 unfolding blocks
-returns c = search rules
+returns c = omega (arith, c.div_ceil.ensures)

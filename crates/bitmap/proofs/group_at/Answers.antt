@@ -6,5 +6,5 @@ use Rattle.bitmap.proofs.group_at.Goals as goal
 pub returns-then-g-eq0 : goal.returns-then-g-eq0
 returns-then-g-eq0 c = let a = c.args in omega (arith, group_even a.bytes.now a.g.0 (omega arith) (omega arith))
 
-pub returns : goal.returns
-returns c = let a = c.args in omega (arith, group_odd a.bytes.now a.g.0 (omega arith))
+pub returns-else-g-eq0 : goal.returns-else-g-eq0
+returns-else-g-eq0 c = let a = c.args in omega (arith, group_odd a.bytes.now a.g.0 (omega arith))

@@ -10,52 +10,29 @@ returns-then-directory-blocks_of c =
     length_wrong s.args.bytes.now s.args.directory.now (λ e. c.if-directory-blocks_of.true (e ∙ sym c.blocks_of.ensures))
 
 pub loop-block-init : goal.loop-block-init
-loop-block-init c = (omega arith, ((λ h. unfold ones_before in refl), omega arith), λ k h. absurd (omega arith))
+loop-block-init c = (((λ h. unfold ones_before in refl), omega arith), λ k h. absurd (omega arith))
 
-pub offset_bounds-directory-block : goal.offset_bounds-directory-block
-offset_bounds-directory-block c = omega arith
-
-pub bounds-directory-block : goal.bounds-directory-block
-bounds-directory-block c = omega arith
-
-pub returns-then-wide_entry-ones : goal.returns-then-wide_entry-ones
-returns-then-wide_entry-ones c =
-    let i = c in
-    let w = i.loop-block in
-    let a = i.args in
-    filled_wrong a.bytes.now a.directory.now w.block (omega (arith, c.well_formed, c.if-directory-blocks_of.false, c.blocks_of.ensures))
-    (λ e. c.if-wide_entry-ones.true (omega (arith, c.wide_entry.ensures.0, e, w.invariant.1.0 (omega (arith, block_begins c.args.bytes.now c.loop-block.block (omega (arith, c.well_formed, c.if-directory-blocks_of.false, c.blocks_of.ensures)))))))
+pub returns-then-from-ones : goal.returns-then-from-ones
+returns-then-from-ones c =
+    let w = c.loop-block in
+    let a = c.args in
+    let begins = block_begins a.bytes.now w.block (omega (arith, c.blocks_of.ensures)) in
+    filled_wrong a.bytes.now a.directory.now w.block (omega (arith, c.blocks_of.ensures)) (λ e. c.if-from-ones.true (omega (arith, c.from.ensures, e, w.invariant.0.0 (omega arith))))
 
 pub ones_in_block-ones-requires : goal.ones_in_block-ones-requires
-ones_in_block-ones-requires c = block_begins c.args.bytes.now c.loop-block.block (omega (arith, c.well_formed, c.if-directory-blocks_of.false, c.blocks_of.ensures))
-
-pub overflow_add-ones : goal.overflow_add-ones
-overflow_add-ones c =
-    let s = c in
-    omega (arith, c.loop-block.invariant.1.1, s.requires, c.ones_in_block-ones.ensures.2)
-
-pub overflow_step-block : goal.overflow_step-block
-overflow_step-block c = omega arith
-
-pub loop-block-smaller : goal.loop-block-smaller
-loop-block-smaller c = omega arith
+ones_in_block-ones-requires c = block_begins c.args.bytes.now c.loop-block.block (omega (arith, c.blocks_of.ensures))
 
 pub loop-block-preserved : goal.loop-block-preserved
 loop-block-preserved c =
-    let i = c in
-    let w = i.loop-block in
-    let a = i.args in
-    let e = c.ones_in_block-ones.ensures in (
-      omega arith,
-      counted_on a.bytes.now w.block w.ones c.ones_in_block-ones.result w.invariant.1 (block_begins c.args.bytes.now c.loop-block.block (omega (arith, c.well_formed, c.if-directory-blocks_of.false, c.blocks_of.ensures))) e.0 e.1,
-      filled_test a.bytes.now a.directory.now w.block w.invariant.2
-          (omega (arith, c.wide_entry.ensures.0, c.if-wide_entry-ones.false, w.invariant.1.0 (omega (arith, block_begins c.args.bytes.now c.loop-block.block (omega (arith, c.well_formed, c.if-directory-blocks_of.false, c.blocks_of.ensures)))))),
-    )
+    let w = c.loop-block in
+    let a = c.args in
+    let begins = block_begins a.bytes.now w.block (omega (arith, c.blocks_of.ensures)) in
+    let e = c.ones_in_block-ones.ensures in
+    (counted_on a.bytes.now w.block w.ones c.ones_in_block-ones.result w.invariant.0 begins e.0 e.1, filled_test a.bytes.now a.directory.now w.block w.invariant.1 (omega (arith, c.from.ensures, w.invariant.0.0 (omega arith))))
 
 pub returns : goal.returns
 returns c =
     let w = c.loop-block in
-    let s = c in
-    let a = s.args in
-    let just = c.if-directory-blocks_of.false ∙ s.blocks_of.ensures in
-    filled_right a.bytes.now a.directory.now w.block w.invariant.2 (omega (arith, just)) just
+    let a = c.args in
+    let just = c.if-directory-blocks_of.false ∙ c.blocks_of.ensures in
+    filled_right a.bytes.now a.directory.now w.block w.invariant.1 (omega (arith, just)) just

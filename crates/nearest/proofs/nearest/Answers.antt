@@ -11,17 +11,17 @@ use Rattle.nearest.proofs.nearest.Goals as goal
 
 pub deliver-requires : goal.deliver-requires
 deliver-requires c =
-    let s = asked_shows c.asked-r.ensures in
-    (rw c.joints_of-n.ensures s.handed, rw c.joints_of-n.ensures s.fits)
+    let s = asked_shows c.asked-found.ensures in
+    (rw c.joints_of.ensures s.handed, rw c.joints_of.ensures s.fits)
 
 pub returns : goal.returns
 returns c =
-    let asked = rw (to_z-of_z c.ranges.row, to_z-of_z c.ranges.column) at c.asked-r.ensures in
+    let asked = rw (to_z-of_z c.ranges.row, to_z-of_z c.ranges.column) at c.asked-found.ensures in
     let s = asked_shows asked in
     record {
       number = asked.number;
-      answers = c.deliver.ensures.0 ∙ ap (λ (l : List ℕ). filled l (length c.args.answers.now)) (ap (λ (n : ℕ). handed_in n c.asked-r.new.keys) c.joints_of-n.ensures ∙ s.found);
+      answers = c.deliver.ensures ∙ ap (λ (l : List ℕ). filled l (length c.args.answers.now)) (ap (λ (n : ℕ). handed_in n c.asked-found.new.keys) c.joints_of.ensures ∙ s.found);
       trail = asked.trail_left;
-      keys = c.clear_longs.ensures ∙ ap (λ (n : ℕ). replicate n 0) (ap length c.deliver.ensures.1 ∙ s.keys_long);
+      keys = c.clear.ensures ∙ ap (λ (n : ℕ). replicate n 0) s.keys_long;
       corners = asked.corners_left;
     }

@@ -9,43 +9,43 @@ use Rattle.report.proofs.print_requests.Goals as goal
 
 pub slice_bounds-make_directory-end : goal.slice_bounds-make_directory-end
 unfolding blocks
-slice_bounds-make_directory-end c =
-    let g = c.args in
-    omega (arith, c.blocks_of-count.ensures, board_short g.sheet.now g.height g.bytes.now c.requires.0)
+slice_bounds-make_directory-end g c =
+    let a = c.args in
+    omega (arith, c.blocks_of-count.ensures, board_short a.sheet.now a.height a.bytes.now c.requires.0)
 
 pub slice_bounds-make_directory-end-2 : goal.slice_bounds-make_directory-end-2
 unfolding blocks
-slice_bounds-make_directory-end-2 c =
-    let g = c.args in
-    sym (length-take-le _ _ (omega (arith, c.blocks_of-count.ensures, board_short g.sheet.now g.height g.bytes.now c.requires.0)))
+slice_bounds-make_directory-end-2 g c =
+    let a = c.args in
+    sym (length-take-le _ _ (omega (arith, c.blocks_of-count.ensures, board_short a.sheet.now a.height a.bytes.now c.requires.0)))
 
-pub slice_bounds-print_from-end : goal.slice_bounds-print_from-end
+pub slice_bounds-board-end : goal.slice_bounds-board-end
 unfolding blocks
-slice_bounds-print_from-end c =
+slice_bounds-board-end g c =
+    let a = c.args in
     let count = c.blocks_of-count.result in
-    let list = c.args.blocks.now in
-    let g = c.args in
-    let short = board_short g.sheet.now g.height g.bytes.now c.requires.0 in
+    let list = a.blocks.now in
+    let short = board_short a.sheet.now a.height a.bytes.now c.requires.0 in
     let few : count ≤ length list = omega (arith, c.blocks_of-count.ensures, short) in
     let as_long : length c.make_directory.new.directory ≡ length (take count list) = omega arith in
     simp (length-append, length-drop) (omega (arith, length-take-le count list few))
 
-pub slice_bounds-print_from-end-2 : goal.slice_bounds-print_from-end-2
-slice_bounds-print_from-end-2 c = sym (length-take-le _ _ (slice_bounds-print_from-end c))
+pub slice_bounds-board-end-2 : goal.slice_bounds-board-end-2
+slice_bounds-board-end-2 g c = sym (length-take-le _ _ (slice_bounds-board-end g c))
 
 pub print_from-requires : goal.print_from-requires
 unfolding blocks
-print_from-requires c =
-    let g = c.args in
+print_from-requires g c =
+    let a = c.args in
     let pre = c.requires in
     let count = c.blocks_of-count.result in
-    let list = g.blocks.now in
+    let list = a.blocks.now in
     let made = c.make_directory in
     let m = made.new.directory in
-    let short = board_short g.sheet.now g.height g.bytes.now pre.0 in
+    let short = board_short a.sheet.now a.height a.bytes.now pre.0 in
     let few : count ≤ length list = omega (arith, c.blocks_of-count.ensures, short) in
-    let size : length (take count list) ≡ blocks (length g.bytes.now) = length-take-le count list few ∙ c.blocks_of-count.ensures in
-    let own = board_directory g.sheet.now g.height g.bytes.now pre.0 (length (take count list)) m size made.ensures.1 in
+    let size : length (take count list) ≡ blocks (length a.bytes.now) = length-take-le count list few ∙ c.blocks_of-count.ensures in
+    let own = board_directory a.sheet.now a.height a.bytes.now pre.0 (length (take count list)) m size made.ensures.1 in
     let as_long : length m ≡ length (take count list) = omega arith in
     let first = take_at m (drop count list) count (as_long ∙ length-take-le count list few) in
-    (on_desk g.sheet.now g.height g.bytes.now pre.0 _ _ _ _ _ _ (first ∙ own) pre.3 pre.4 pre.5 pre.6 pre.7, pre.1, pre.8)
+    (on_desk a.sheet.now a.height a.bytes.now pre.0 _ _ _ _ _ _ (first ∙ own) pre.3.rows pre.3.columns pre.3.keys pre.3.corners pre.3.trail, pre.1, pre.4)

@@ -1,48 +1,32 @@
 -- Cleared, scanned, then built: the first refusal is the answer.
-use mathlib.Core.Path.{sym, ap, ◌∙◌}
+use mathlib.Core.Path.{sym}
 use native.Mathlib.Omega.{arith}
-use Rattle.sheet.specs.Scan.{scanned_of}
-use Rattle.sheet.proofs.Reading.{scan_accepts, promise_refused, promise_room, requests_within, promise_board, promise_not_built}
+use Rattle.std.proofs.Common.{rules}
+use Rattle.std.proofs.lemmas.Result.{err_from_is_err_and}
+use Rattle.sheet.proofs.Scanning.{turned_ok, turned_err}
+use Rattle.sheet.proofs.Reading.{scan_accepts, promise_refused, promise_board, promise_not_built}
 use Rattle.sheet.proofs.read.Goals as goal
 
-pub returns-then-work-joints : goal.returns-then-work-joints
-returns-then-work-joints c =
+pub returns-in_err-height : goal.returns-in_err-height
+returns-in_err-height c =
     let g = c.args in
-    let e = sym c.scan.ensures ∙ ap scanned_of c.in-Sheet.is in
-    promise_room g.sheet.now g.work.now g.bitmap.now _ _ c.clear_words.ensures c.clear_bytes.ensures _ _ e c.if-work-joints.true
-
-pub overflow_mul-requests : goal.overflow_mul-requests
-overflow_mul-requests c =
-    let g = c.args in
-    let e = sym c.scan.ensures ∙ ap scanned_of c.in-Sheet.is in
-    omega (arith, requests_within g.sheet.now g.work.now g.bitmap.now _ _ c.clear_words.ensures c.clear_bytes.ensures _ _ e)
-
-pub overflow_add-requests : goal.overflow_add-requests
-overflow_add-requests c =
-    let g = c.args in
-    let e = sym c.scan.ensures ∙ ap scanned_of c.in-Sheet.is in
-    omega (arith, requests_within g.sheet.now g.work.now g.bitmap.now _ _ c.clear_words.ensures c.clear_bytes.ensures _ _ e)
+    let p = err_from_is_err_and c.from_residual.result c.from_residual.ensures.1 in
+    rw (p.1, p.2) (promise_refused g.sheet.now g.work.now g.bitmap.now _ _ c.clear.ensures c.clear-2.ensures _ _ (sym c.in_err-height.ensures))
 
 pub build_joints-requires : goal.build_joints-requires
 build_joints-requires c =
     let g = c.args in
-    let e = sym c.scan.ensures ∙ ap scanned_of c.in-Sheet.is in
-    scan_accepts g.sheet.now _ _ e λ rs k height many. ((rs, k, height, many), c.if-work-joints.false)
+    scan_accepts g.sheet.now _ _ (sym c.in_ok-height.ensures) λ rs k height many. ((rs, k, height, many), omega arith)
 
-pub returns-in-Board : goal.returns-in-Board
-returns-in-Board c =
+pub returns-in_err-built : goal.returns-in_err-built
+returns-in_err-built c =
     let g = c.args in
-    let e = sym c.scan.ensures ∙ ap scanned_of c.in-Sheet.is in
-    promise_board g.sheet.now g.work.now g.bitmap.now _ _ c.clear_words.ensures c.clear_bytes.ensures _ _ e c.if-work-joints.false _ _ _ _ _ (rw c.in-Board.is at c.build_joints.ensures)
+    let p = err_from_is_err_and c.from_residual-in_err-built.result c.from_residual-in_err-built.ensures.1 in
+    let t = turned_err c.build_joints.result c.map_err.result 0 (search rules) c.in_err-built.was in
+    rw (p.1, p.2, t.2) (promise_not_built g.sheet.now g.work.now g.bitmap.now _ _ c.clear.ensures c.clear-2.ensures _ _ (sym c.in_ok-height.ensures) (omega arith) _ _ _ (rw t.1 at c.build_joints.ensures))
 
-pub returns-in-Refused-build_joints : goal.returns-in-Refused-build_joints
-returns-in-Refused-build_joints c =
+pub returns : goal.returns
+returns c =
     let g = c.args in
-    let e = sym c.scan.ensures ∙ ap scanned_of c.in-Sheet.is in
-    promise_not_built g.sheet.now g.work.now g.bitmap.now _ _ c.clear_words.ensures c.clear_bytes.ensures _ _ e c.if-work-joints.false _ _ _ (rw c.in-Refused-build_joints.is at c.build_joints.ensures)
-
-pub returns-in-Refused : goal.returns-in-Refused
-returns-in-Refused c =
-    let g = c.args in
-    let e = sym c.scan.ensures ∙ ap scanned_of c.in-Refused.is in
-    promise_refused g.sheet.now g.work.now g.bitmap.now _ _ c.clear_words.ensures c.clear_bytes.ensures _ _ e
+    let t = turned_ok c.build_joints.result c.map_err.result 0 (search rules) c.in_ok-built.was in
+    promise_board g.sheet.now g.work.now g.bitmap.now _ _ c.clear.ensures c.clear-2.ensures _ _ (sym c.in_ok-height.ensures) (omega arith) _ _ _ (rw t at c.build_joints.ensures)

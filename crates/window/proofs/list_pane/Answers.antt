@@ -2,30 +2,33 @@
 use mathlib.Core.Logic.{inl, inr}
 use Rattle.window.proofs.Showing.{whole_is, whole_stood, whole_room, pane_served, pane_refused}
 use Rattle.window.proofs.list_pane.Goals as goal
-use Rattle.window.proofs.list_pane.Goals.{then-places-rows+else-places-columns, else-places-rows}
+use Rattle.window.proofs.list_pane.Goals.{then-cells-places-via-then-cells-places, then-cells-places-via-else-cells-places+then-cells-places-2}
 
 pub list_box-count-requires : goal.list_box-count-requires
 list_box-count-requires c =
     let a = c.args in
-    let whole = whole_is a.height c.root.result c.root.ensures in
+    let b = a.board in
+    let whole = whole_is b.height c.root.result c.root.ensures in
     let ready = c.requires.0 in
-    (whole_stood a.height a.bytes.now a.directory.now _ whole ready, ready.valid.tall, whole_room a.height a.bytes.now a.directory.now _ whole ready)
+    (whole_stood b.height b.bytes.now b.directory.now _ whole ready, ready.valid.tall, whole_room b.height b.bytes.now b.directory.now _ whole ready)
 
-pub returns-then-places-columns : goal.returns-then-places-columns
-returns-then-places-columns c =
+pub returns-then-cells-places-clause-shown : goal.returns-then-cells-places-clause-shown
+returns-then-cells-places-clause-shown c =
     let a = c.args in
-    let whole = whole_is a.height c.root.result c.root.ensures in
+    let b = a.board in
+    let whole = whole_is b.height c.root.result c.root.ensures in
+    let got = c.list_box-count in
+    pane_refused a.pane b.height b.bytes.now b.directory.now _ whole got.result a.cells.now.rows.now _ a.cells.now.columns.now _ got.ensures.listed _ _
+    c.clear.ensures.cleared.0 c.clear.ensures.cleared.1 (elim c.then-cells-places.branch [
+      | then-cells-places-via-then-cells-places w ↦ inr w.if-cells-places.true
+      | then-cells-places-via-else-cells-places+then-cells-places-2 w ↦ inl (w.if-cells-places.false, w.if-cells-places-2.true)
+    ])
+
+pub returns-clause-shown : goal.returns-clause-shown
+returns-clause-shown c =
+    let a = c.args in
+    let b = a.board in
+    let whole = whole_is b.height c.root.result c.root.ensures in
     let got = c.list_box-count in
     let pre = c.requires in
-    pane_served a.pane a.height a.bytes.now a.directory.now _ whole got.result a.rows.now _ a.columns.now _ got.ensures pre.1 pre.2 c.if-places-rows.true c.if-places-columns.true
-
-pub returns : goal.returns
-returns c =
-    let a = c.args in
-    let whole = whole_is a.height c.root.result c.root.ensures in
-    let got = c.list_box-count in
-    pane_refused a.pane a.height a.bytes.now a.directory.now _ whole got.result a.rows.now _ a.columns.now _ got.ensures _ _
-    c.clear_both.ensures.0 c.clear_both.ensures.1 (elim c.if-places-rows.branch [
-      | then-places-rows+else-places-columns w ↦ inl (w.if-places-rows.true, w.if-places-columns.false)
-      | else-places-rows w ↦ inr w.if-places-rows.false
-    ])
+    pane_served a.pane b.height b.bytes.now b.directory.now _ whole got.result a.cells.now.rows.now _ a.cells.now.columns.now _ got.ensures.listed pre.1 pre.2 c.if-cells-places.false c.if-cells-places-2.false

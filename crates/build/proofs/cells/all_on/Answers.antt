@@ -1,21 +1,16 @@
-use mathlib.Core.Path.{sym, ◌∙◌}
-use native.Mathlib.Omega.{arith}
-use Rattle.board.specs.Limits.{max_height}
-use Rattle.build.proofs.Coding.{tested_start, cell_off, tested_step, tested_end}
+-- The chain tests the row and the column of each place, and the test of all is told by those.
+use Prim.Native.Nat.{ℕ}
+use mathlib.Core.Bool.{true, false}
+use mathlib.Core.Path.{◌≡◌}
+use Rattle.std.proofs.Common.{rules}
+use Rattle.std.proofs.lemmas.Iterator.{YieldsList-from_slice, YieldsList-from_zip, cases_from_all}
+use Rattle.board.specs.Member.{on_board}
+use Rattle.build.proofs.Coding.{tested}
 use Rattle.build.proofs.cells.all_on.Goals as goal
 
-pub loop-i-init : goal.loop-i-init
-loop-i-init c = tested_start _ _ _
-
-pub on_board-requires : goal.on_board-requires
-unfolding max_height
-on_board-requires c = omega arith
-
-pub returns-then-not-on_board : goal.returns-then-not-on_board
-returns-then-not-on_board c = cell_off c.loop-i.invariant c.requires.1 c.loop-i-test.true (sym c.on_board.ensures ∙ c.if-not-on_board.true)
-
-pub loop-i-preserved : goal.loop-i-preserved
-loop-i-preserved c = tested_step c.loop-i.invariant c.requires.1 c.loop-i-test.true (sym c.on_board.ensures ∙ c.if-not-on_board.false)
-
 pub returns : goal.returns
-returns c = tested_end c.loop-i.invariant c.requires.1 (omega arith)
+returns c =
+    let a = c.args in
+    tested a.height a.rows.now a.columns.now c.all.result
+    (cases_from_all c.all.new.self _ _ (λ (p : ℕ × ℕ). on_board a.height p.0 p.1 ≡ true) (λ (p : ℕ × ℕ). on_board a.height p.0 p.1 ≡ false) c.all.ensures.ran
+    (YieldsList-from_zip (YieldsList-from_slice a.rows.now cc) (YieldsList-from_slice a.columns.now cc)) (λ x q k. search rules) (λ x q k. search rules))

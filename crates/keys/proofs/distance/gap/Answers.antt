@@ -4,14 +4,9 @@ use mathlib.Core.Path.{◌≡◌}
 use native.Mathlib.Omega.{arith}
 use lib.IntN.{pos, ◌-ℤ◌}
 use lib.Signed.{lt_z}
-use Rattle.signed.proofs.Signed.{fits, back, plain, size_minus}
+use Rattle.signed.proofs.Signed.{back, plain, size_minus}
 use Rattle.search.specs.Near.{signed_gap}
 use Rattle.keys.proofs.distance.gap.Goals as goal
-
-pub overflow_sub-result : goal.overflow_sub-result
-overflow_sub-result c =
-    let g = c.args in
-    rw (back g.place (omega arith), plain g.lo (omega arith)) (fits (pos g.lo -ℤ g.place) (omega (arith, size_minus g.lo g.place)))
 
 -- the place is before the span
 pub returns-then-place-first : goal.returns-then-place-first
@@ -21,11 +16,6 @@ returns-then-place-first c =
     let same = back g.place (omega arith) in let first = plain g.lo (omega arith) in
     let below : lt_z g.place (pos g.lo) ≡ true = rw (same, first) at c.if-place-first.true in
     rw (same, first, back (pos g.lo -ℤ g.place) (omega (arith, size_minus g.lo g.place)), below)
-
-pub overflow_sub-result-then-last-place : goal.overflow_sub-result-then-last-place
-overflow_sub-result-then-last-place c =
-    let g = c.args in
-    rw (back g.place (omega arith), plain g.hi (omega arith)) (fits (pos g.hi -ℤ g.place) (omega (arith, size_minus g.hi g.place)))
 
 -- the place is past the span
 pub returns-then-last-place : goal.returns-then-last-place
@@ -38,9 +28,9 @@ returns-then-last-place c =
     rw (same, last, back (pos g.hi -ℤ g.place) (omega (arith, size_minus g.hi g.place)), below, above)
 
 -- the place is in the span
-pub returns : goal.returns
+pub returns-else-last-place : goal.returns-else-last-place
 unfolding signed_gap
-returns c =
+returns-else-last-place c =
     let g = c.args in
     let same = back g.place (omega arith) in
     let below : lt_z g.place (pos g.lo) ≡ false = rw (same, plain g.lo (omega arith)) at c.if-place-first.false in

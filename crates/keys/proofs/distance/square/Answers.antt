@@ -2,18 +2,10 @@
 use Prim.Native.Nat.{◌*◌}
 use native.Mathlib.Omega.{arith}
 use lib.IntN.{pos, nat_abs}
-use Rattle.signed.proofs.Signed.{fits, back, square_is}
+use Rattle.signed.proofs.Signed.{back, square_is}
 use Rattle.search.specs.Near.{square}
 use Rattle.search.proofs.Near.{small_square}
 use Rattle.keys.proofs.distance.square.Goals as goal
-
-pub overflow_mul-result : goal.overflow_mul-result
-overflow_mul-result c = let d = c.args.d in rw (back d (omega arith), square_is d) (fits (pos (nat_abs d * nat_abs d)) (small_square d c.requires))
-
-pub overflow_cast-result : goal.overflow_cast-result
-overflow_cast-result c =
-    let d = c.args.d in let small = small_square d c.requires in
-    rw (back d (omega arith), square_is d, back (pos (nat_abs d * nat_abs d)) small) (tt, record { fits = omega arith })
 
 pub returns : goal.returns
 unfolding square

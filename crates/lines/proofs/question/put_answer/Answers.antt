@@ -6,17 +6,13 @@ use Rattle.lines.specs.Report.{ask_lines}
 use Rattle.lines.proofs.Room.{one_word, line_short}
 use Rattle.lines.proofs.question.put_answer.Goals as goal
 
-pub put_found-requires : goal.put_found-requires
-put_found-requires c = rw c.in-Found.is at c.requires
-
 pub put_no-requires : goal.put_no-requires
 put_no-requires c = omega (arith, line_short (no_line c.number.result) (one_word c.number.result (omega arith)))
 
-pub returns-in-Found : goal.returns-in-Found
+pub returns-in-Ok : goal.returns-in-Ok
 unfolding ask_lines
-returns-in-Found c = rw c.in-Found.is c.put_found.ensures
+returns-in-Ok c = rw c.in-Ok.is c.put_found.ensures
 
-pub returns-in-Refused : goal.returns-in-Refused
+pub returns-in-Err : goal.returns-in-Err
 unfolding ask_lines text_of flat_map
-returns-in-Refused c =
-    rw (c.in-Refused.is, ← c.number.ensures, append-nil (bytes_of (no_line c.number.result))) c.put_no.ensures
+returns-in-Err c = rw (c.in-Err.is, ← c.number.ensures, append-nil (bytes_of (no_line c.number.result))) c.put_no.ensures

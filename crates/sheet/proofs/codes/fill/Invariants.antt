@@ -1,10 +1,7 @@
--- The loop fills place by place, and goes from joint record to joint record.
-use Prim.Native.Nat.{◌-◌, ◌≤◌}
-use Rattle.sheet.proofs.Filling.{Filled}
+-- The codes of the first joints stand in the places that are filled, and behind them what stood there.
+use Rattle.std.proofs.Common.{◌≡◌, ◌++◌, drop}
+use Rattle.sheet.specs.Codes.{codes_at}
 use Rattle.sheet.proofs.codes.fill.Given as goal
 
 abbrev pub invariant-loop-i : goal.invariant-loop-i
-invariant-loop-i l = (l.i ≤ l.joints) × Filled l.height l.sheet l.initial.work l.at l.i l.work
-
-abbrev pub decreases-loop-i : goal.decreases-loop-i
-decreases-loop-i l = l.joints - l.i
+invariant-loop-i l = l.code-items ≡ codes_at l.height l.sheet l.i ++ drop l.i l.initial.code-items

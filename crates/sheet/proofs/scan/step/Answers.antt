@@ -1,36 +1,13 @@
--- One record: refused, the end, or any other.
-use mathlib.Core.Path.{sym, ap, ◌∙◌}
-use native.Mathlib.Omega.{arith}
-use Rattle.records.specs.Answers.{recorded_of}
-use Rattle.sheet.proofs.Scanning.{next_is, stepped_refused, stepped_on, stepped_more, stepped_end}
+-- A record that is refused is refused at its offset.
+use mathlib.Core.Path.{sym}
+use Rattle.std.proofs.Common.{rules}
+use Rattle.std.proofs.lemmas.Result.{err_from_is_err_and}
+use Rattle.sheet.proofs.Scanning.{turned_err, stepped_refused}
 use Rattle.sheet.proofs.scan.step.Goals as goal
 
-pub after-requires : goal.after-requires
-after-requires c =
+pub returns-in_err-read : goal.returns-in_err-read
+returns-in_err-read c =
     let g = c.args in
-    let read = sym c.record_at.ensures ∙ ap recorded_of c.in-Record.is in
-    omega (arith, next_is g.sheet.now g.place c.requires.0 _ _ read)
-
-pub returns-then-not-is_end : goal.returns-then-not-is_end
-returns-then-not-is_end c =
-    let g = c.args in
-    let read = sym c.record_at.ensures ∙ ap recorded_of c.in-Record.is in
-    let pre = c.requires in
-    rw c.after.ensures (stepped_on g.sheet.now g.place pre.0 _ _ read pre.1 pre.2 (sym c.is_end.ensures ∙ c.if-not-is_end.true))
-
-pub returns-then-next-sheet : goal.returns-then-next-sheet
-returns-then-next-sheet c =
-    let g = c.args in
-    let read = sym c.record_at.ensures ∙ ap recorded_of c.in-Record.is in
-    stepped_more g.sheet.now g.place c.requires.0 _ _ read (sym c.is_end.ensures ∙ c.if-not-is_end.false) c.if-next-sheet.true
-
-pub returns-else-next-sheet : goal.returns-else-next-sheet
-returns-else-next-sheet c =
-    let g = c.args in
-    let read = sym c.record_at.ensures ∙ ap recorded_of c.in-Record.is in
-    stepped_end g.sheet.now g.place c.requires.0 _ _ read (sym c.is_end.ensures ∙ c.if-not-is_end.false) c.if-next-sheet.false
-
-pub returns-in-Refused : goal.returns-in-Refused
-returns-in-Refused c =
-    let g = c.args in
-    stepped_refused g.sheet.now g.place c.requires.0 _ (sym c.record_at.ensures ∙ ap recorded_of c.in-Refused.is)
+    let p = err_from_is_err_and c.from_residual.result c.from_residual.ensures.1 in
+    let t = turned_err c.record_at.result c.map_err.result g.place.at (search rules) c.in_err-read.was in
+    rw (p.1, p.2, t.2) (stepped_refused g.sheet.now g.place c.requires.0 t.0 (sym (rw t.1 at c.record_at.ensures)))
