@@ -10,7 +10,7 @@ ghost use Rattle.board.specs.Ready.{made_of};
 ghost use Rattle.build.specs.Build.{bitmap_of};
 ghost use Rattle.build.specs.Answers.{built_of, cells_of};
 ghost use Rattle.sheet.specs.Sheet.{max_records, max_bytes};
-ghost use Rattle.lines.specs.Report.{room};
+ghost use Rattle.lines.specs.Limits.{room};
 ghost use Rattle.lines.specs.Requests.{Chunked};
 ghost use Rattle.lines.specs.Whole.{OnDesk, report_desk};
 ghost use Rattle.bench_entries.specs.Entries.{Begun as FirstPut};

@@ -1,4 +1,5 @@
 // What the benchmark links: the calls of `bench_entries` under their names in C, each with its promise, and its `requires` where it has one.
+// What is lent is lent one by one, as C has it.
 #![tactic(auto)]
 
 ghost use Rattle.std.specs.Prelude.{◌≡◌, [], ◌∷◌, ◌<◌, ◌≤◌, length, replicate};
@@ -9,7 +10,7 @@ ghost use Rattle.board.specs.Ready.{made_of};
 ghost use Rattle.build.specs.Build.{bitmap_of};
 ghost use Rattle.build.specs.Answers.{built_of, cells_of};
 ghost use Rattle.sheet.specs.Sheet.{max_records, max_bytes};
-ghost use Rattle.lines.specs.Report.{room};
+ghost use Rattle.lines.specs.Limits.{room};
 ghost use Rattle.lines.specs.Requests.{Chunked};
 ghost use Rattle.lines.specs.Whole.{OnDesk, report_desk};
 ghost use Rattle.bench_entries.specs.Entries.{Begun as FirstPut};

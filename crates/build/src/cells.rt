@@ -36,7 +36,7 @@ pub(crate) fn fill(height: u32, rows: &[u32], columns: &[u32], work: &mut [u32])
     requires { (height ≤ max_height) × (length rows.now ≡ length columns.now) × (length rows.now ≤ length work.old) }
     ensures { work.new ≡ map (code_of height) (cells_of rows.now columns.now) ++ drop (length rows.now) work.old }
 {
-    // By number: after an `iter_mut` a proof knows no more of the list than its length.
+    // By number: three lists are walked at once.
     for i in 0..rows.len() {
         work[i] = code(height, rows[i], columns[i]);
     }

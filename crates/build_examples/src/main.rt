@@ -115,6 +115,7 @@ fn show_built(
     }
 }
 
+// What it takes travels together nowhere else.
 fn show(
     rt: &impl Print,
     height: u32,

@@ -14,7 +14,7 @@ use Rattle.board.specs.Ready.{made_of}
 use Rattle.sheet.specs.Sheet.{max_records, max_bytes}
 use Rattle.sheet.specs.Promise.{bitmap_in}
 use Rattle.sheet.proofs.Served.{served_board}
-use Rattle.lines.specs.Report.{max_trail}
+use Rattle.lines.specs.Limits.{max_trail}
 use Rattle.lines.specs.Requests.{Desk}
 use Rattle.lines.specs.Whole.{BoardIn, OnDesk}
 

@@ -1,13 +1,18 @@
 -- Each promise determines its call.
-use Prim.Native.Nat.{ℕ}
+use Prim.Native.Nat.{ℕ, ◌≤◌}
 use mathlib.Core.Path.{◌≡◌, refl, sym, ◌∙◌}
 use native.Mathlib.Omega.{arith}
+use mathlib.Core.HLevel.{is_prop→PathP}
+use native.Mathlib.Bridge.{le_prop}
+use lib.ListN.{length}
+use Rattle.board.specs.Limits.{max_joints}
 use Rattle.promise.specs.Determines.{Determines}
 use Rattle.std.specs.Prelude.{Option, Some, None}
 use Rattle.lent.proofs.References.{same_reference}
 use Rattle.lines.specs.declared.lists.Lists.{Lists}
 use Rattle.lines.specs.declared.start.BoardSize.{BoardSize}
 use Rattle.text.proofs.Determined.{put_one_way}
+use Rattle.lines.specs.Limits.{max_trail}
 use Rattle.lines.specs.Lists.{Cleared}
 use Rattle.lines.specs.Start.{told_in}
 use Rattle.lines.specs.contracts.start.first_line as first-line-fn
@@ -34,7 +39,15 @@ cleared_alike {was} {x} {y} p q =
     let keys = same_reference was.keys x.keys y.keys p.same.keys q.same.keys (p.keys ∙ sym q.keys) in
     let corners = same_reference was.corners x.corners y.corners p.same.corners q.same.corners (p.corners ∙ sym q.corners) in
     let trail = same_reference was.trail x.trail y.trail p.same.trail q.same.trail (p.trail ∙ sym q.trail) in
-    λ i. record { rows = rows i; columns = columns i; keys = keys i; corners = corners i; trail = trail i }
+    λ i. record {
+      rows = rows i;
+      columns = columns i;
+      keys = keys i;
+      corners = corners i;
+      trail = trail i;
+      few = is_prop→PathP (λ j. length (rows j).now ≤ max_joints) (λ j. le_prop) x.few y.few i;
+      short = is_prop→PathP (λ j. length (trail j).now ≤ max_trail) (λ j. le_prop) x.short y.short i;
+    }
 
 pub first_line_determined : Determines first-line-fn.ended first-line.Asked first-line.Learnt
 first_line_determined κs a asked x y left other p q =

@@ -20,7 +20,7 @@ use Rattle.search.specs.Question.{answer_keys, trail}
 use Rattle.keys.specs.declared.distance.Place.{Place}
 use Rattle.keys.specs.Places.{place_of, in_range}
 use Rattle.nearest.specs.Promise.{max_wanted, work_for, nearest_of}
-use Rattle.lines.specs.Report.{max_answers, max_trail}
+use Rattle.lines.specs.Limits.{max_answers, max_trail}
 use Rattle.lines.specs.Whole.{report_desk}
 
 -- a question's tests in their order: where each K that is asked has its places, and the work lists theirs, the answer is neither 9 nor 10

@@ -20,7 +20,8 @@ use Rattle.seek.specs.Step.{handed_in}
 use Rattle.nearest.specs.Promise.{Rooms, work_for, room_of, nearest_of, numbers_of, joints_of}
 use Rattle.nearest.specs.Asked.{rooms_of, Asked}
 use Rattle.nearest.proofs.Handing.{asked_shows}
-use Rattle.lines.specs.Report.{max_answers, boxes_in, ask_lines}
+use Rattle.lines.specs.Limits.{max_answers}
+use Rattle.lines.specs.Report.{boxes_in, ask_lines}
 use Rattle.lines.proofs.Windows.{left_begins}
 
 -- the boxes opened are the trail, and it has room

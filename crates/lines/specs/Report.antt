@@ -10,23 +10,13 @@ use Rattle.text.specs.declared.page.Page.{Page}
 use Rattle.text.specs.Text.{Line, text_of}
 use Rattle.text.specs.Page.{Puts}
 use Rattle.text.specs.Lines.{ask_line, at_line, opened_line, win_line, in_lines, no_line}
+use Rattle.lines.specs.Limits.{room}
 use Rattle.lines.specs.declared.lists.Lists.{Lists}
 use Rattle.lines.specs.Lists.{Kept}
-
--- enough bytes for the lines of any record
-abbrev pub room : ℕ
-room = 131072
 
 -- a page has so much left
 abbrev pub Roomy : Page → Type 0
 Roomy page = page.at + room ≤ length page.out.now
-
--- the program's places for the joints found and for the trail
-abbrev pub max_answers : ℕ
-max_answers = 255
-
-abbrev pub max_trail : ℕ
-max_trail = 4096
 
 -- a window's lines, by its answer and the cells inside it
 unfoldable pub window_lines : Answer ℕ → List Box → List Line
@@ -57,7 +47,7 @@ ask_lines (Served x) k found opened = found_lines k found opened
 ask_lines (Refused n) k found opened = no_line n ∷ []
 
 -- a window's lines are put on a page, and this is left in the lists: its rows and columns, and all else as it was
-pub record WindowPut (answer : Answer ℕ) (cells : List Box) (page page' : Page) (lists lists' : Lists) : Type 0 where
+pub record WindowPuts (answer : Answer ℕ) (cells : List Box) (page page' : Page) (lists lists' : Lists) : Type 0 where
   pub text : Puts (text_of (window_lines answer cells)) page page'
   pub kept : Kept lists lists'
   pub rows_left : lists'.rows.now ≡ left_in answer (map window.row_of cells) (length lists.rows.now)
@@ -72,7 +62,7 @@ boxes_in (Ok found) = found.boxes
 boxes_in (Err refusal) = 0
 
 -- a question's lines are put on a page; the work lists are left with zeros, the trail's list with the trail, and all else as it was
-pub record AskPut (answer : Answer (List ℕ)) (k : ℕ) (found opened : List ℕ) (page page' : Page) (lists lists' : Lists) : Type 0 where
+pub record AskPuts (answer : Answer (List ℕ)) (k : ℕ) (found opened : List ℕ) (page page' : Page) (lists lists' : Lists) : Type 0 where
   pub text : Puts (text_of (ask_lines answer k found opened)) page page'
   pub kept : Kept lists lists'
   pub keys_left : lists'.keys.now ≡ replicate (length lists.keys.now) 0

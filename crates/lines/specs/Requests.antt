@@ -16,7 +16,8 @@ use Rattle.text.specs.declared.page.Page.{Page}
 use Rattle.text.specs.Text.{Line, text_of, Put}
 use Rattle.text.specs.Page.{Puts}
 use Rattle.text.specs.Lines.{end_line}
-use Rattle.lines.specs.Report.{max_answers, window_lines, ask_lines}
+use Rattle.lines.specs.Limits.{max_answers}
+use Rattle.lines.specs.Report.{window_lines, ask_lines}
 
 -- what a board is asked with: its directory, and places for a window's rows and columns and for a question's lists
 pub record Desk : Type 0 where

@@ -11,7 +11,7 @@ use Rattle.sheet.specs.Sheet.{Verdict, Accepted, RefusedAt, max_records, max_byt
 use Rattle.sheet.specs.Promise.{read_of, bitmap_in}
 use Rattle.text.specs.Text.{Line, text_of}
 use Rattle.lines.specs.declared.lists.Lists.{Lists}
-use Rattle.lines.specs.Report.{max_answers, max_trail}
+use Rattle.lines.specs.Limits.{max_answers, max_trail}
 use Rattle.lines.specs.Requests.{Desk, desk_of, request_lines, read_lines, next_in}
 use Rattle.lines.specs.Start.{first_line, told_of}
 

@@ -10,7 +10,8 @@ ghost use Rattle.nearest.specs.Asked.{rooms_of};
 ghost use Rattle.nearest.specs.Answers.{Handed};
 ghost use Rattle.text.specs.Text.{bytes_of, text_of};
 ghost use Rattle.text.specs.Page.{Room, Puts};
-ghost use Rattle.lines.specs.Report.{Roomy, max_answers, max_trail, key_line, boxes_in, found_lines, ask_lines, AskPut};
+ghost use Rattle.lines.specs.Limits.{max_answers, max_trail};
+ghost use Rattle.lines.specs.Report.{Roomy, key_line, boxes_in, found_lines, ask_lines, AskPuts};
 
 use crate::lists::Lists;
 use board::Board;
@@ -67,8 +68,8 @@ fn put_answer(answer: Result<Found, Refusal>, k: u32, lists: &Lists, page: &mut 
 
 // The lines of a question.
 pub(crate) fn ask_lines(board: Board, p: Place, k: u32, lists: &mut Lists, page: &mut Page)
-    requires { (length lists.old.trail.now ≤ max_trail) × Roomy page.old }
-    ensures { AskPut (nearest_of board.entry.height board.entry.bytes.now board.entry.directory.now p k (rooms_of max_answers lists.old.keys.now lists.old.corners.now lists.old.trail.now)) k (answer_keys (place_of p) board.entry.height board.entry.bytes.now k) (way_of (place_of p) board.entry.height board.entry.bytes.now k) page.old page.new lists.old lists.new }
+    requires { Roomy page.old }
+    ensures { AskPuts (nearest_of board.entry.height board.entry.bytes.now board.entry.directory.now p k (rooms_of max_answers lists.old.keys.now lists.old.corners.now lists.old.trail.now)) k (answer_keys (place_of p) board.entry.height board.entry.bytes.now k) (way_of (place_of p) board.entry.height board.entry.bytes.now k) page.old page.new lists.old lists.new }
 {
     let answer = asked(
         board,

@@ -5,7 +5,7 @@ ghost use Rattle.window.specs.Window.{ends, found, window_of, window_numbers};
 ghost use Rattle.text.specs.Text.{text_of};
 ghost use Rattle.text.specs.Page.{Puts};
 ghost use Rattle.text.specs.Lines.{win_line, in_lines};
-ghost use Rattle.lines.specs.Report.{Roomy, cells_in, shown_lines, WindowPut};
+ghost use Rattle.lines.specs.Report.{Roomy, cells_in, shown_lines, WindowPuts};
 
 use crate::lists::Lists;
 use board::Board;
@@ -34,7 +34,7 @@ fn put_window(answer: Result<u32, Refusal>, lists: &Lists, page: &mut Page)
     }
 }
 
-// The lines of a window.
+// The lines of a window, whose four ends are given one by one, as document 01 names them.
 pub(crate) fn window_lines(
     board: Board,
     lowest_row: u32,
@@ -44,8 +44,8 @@ pub(crate) fn window_lines(
     lists: &mut Lists,
     page: &mut Page,
 )
-    requires { (length lists.old.rows.now ≤ max_joints) × Roomy page.old }
-    ensures { WindowPut (window_of board.entry.height board.entry.bytes.now board.entry.directory.now (ends lowest_row highest_row lowest_column highest_column) (length lists.old.rows.now) (length lists.old.columns.now)) (found (ends lowest_row highest_row lowest_column highest_column) board.entry.height board.entry.bytes.now) page.old page.new lists.old lists.new }
+    requires { Roomy page.old }
+    ensures { WindowPuts (window_of board.entry.height board.entry.bytes.now board.entry.directory.now (ends lowest_row highest_row lowest_column highest_column) (length lists.old.rows.now) (length lists.old.columns.now)) (found (ends lowest_row highest_row lowest_column highest_column) board.entry.height board.entry.bytes.now) page.old page.new lists.old lists.new }
 {
     let answer = window(
         board,

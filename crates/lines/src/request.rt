@@ -3,7 +3,8 @@ ghost use Rattle.std.specs.Prelude.{◌≡◌, ◌<◌, ◌≤◌, length};
 ghost use Rattle.board.specs.Limits.{max_height, max_joints};
 ghost use Rattle.text.specs.Text.{text_of};
 ghost use Rattle.text.specs.Page.{Puts};
-ghost use Rattle.lines.specs.Report.{room, Roomy, max_trail};
+ghost use Rattle.lines.specs.Limits.{room, max_trail};
+ghost use Rattle.lines.specs.Report.{Roomy};
 ghost use Rattle.lines.specs.Lists.{Kept, Cleared};
 ghost use Rattle.lines.specs.Requests.{desk_with, request_lines, PageChunked, Chunked};
 ghost use Rattle.lines.specs.Whole.{Laid, report_desk};
@@ -26,7 +27,7 @@ pub struct Chunk {
 
 // The lines of a record.
 fn request_lines(board: Board, request: Record, lists: &mut Lists, page: &mut Page)
-    requires { (length lists.old.rows.now ≤ max_joints) × (length lists.old.trail.now ≤ max_trail) × Roomy page.old }
+    requires { Roomy page.old }
     ensures { Puts (text_of (request_lines (desk_with board.entry.directory.now lists.old) board.entry.height board.entry.bytes.now request)) page.old page.new × Kept lists.old lists.new }
 {
     match request {
@@ -54,7 +55,7 @@ fn request_lines(board: Board, request: Record, lists: &mut Lists, page: &mut Pa
 
 // The lines of the record at a place of a sheet; the place of the next.
 fn chunk_at(board: Board, sheet: &[u8], at: usize, lists: &mut Lists, page: &mut Page) -> usize
-    requires { (at < length sheet.now) × (board.height ≤ max_height) × (length lists.old.rows.now ≤ max_joints) × (length lists.old.trail.now ≤ max_trail) × Roomy page.old }
+    requires { (at < length sheet.now) × (board.height ≤ max_height) × Roomy page.old }
     ensures { PageChunked (desk_with board.entry.directory.now lists.old) board.entry.height board.entry.bytes.now sheet.now at page.old page.new result × Kept lists.old lists.new }
 {
     match record_at(sheet, at, Stage::Requests, board.height) {

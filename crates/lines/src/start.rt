@@ -1,6 +1,6 @@
 // The first line of a report: the board of the sheet, or why and where the sheet is refused.
 ghost use Rattle.std.specs.Prelude.{◌≡◌, ◌≤◌, length};
-ghost use Rattle.lines.specs.Report.{room};
+ghost use Rattle.lines.specs.Limits.{room};
 ghost use Rattle.lines.specs.Start.{Started};
 ghost use Rattle.sheet.specs.Sheet.{max_records, max_bytes};
 

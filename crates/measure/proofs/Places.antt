@@ -21,7 +21,7 @@ has-length (may ∷ form) [] e = cc
 has-length (may ∷ form) (b ∷ t) e = ap suc (has-length form t (both (may b) (has_form form t) e).1)
 
 -- and each byte is as it may be there
-has_place : (form : List (ℕ → Bool)) (t : List ℕ) (i : ℕ) → has_form form t ≡ true → get_or form i (λ _. true) (get_or t i 0) ≡ true
+pub has_place : (form : List (ℕ → Bool)) (t : List ℕ) (i : ℕ) → has_form form t ≡ true → get_or form i (λ _. true) (get_or t i 0) ≡ true
 unfolding has_form
 has_place [] t i e = refl
 has_place (may ∷ form) [] i e = cc

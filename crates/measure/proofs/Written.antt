@@ -27,7 +27,7 @@ read_written n h =
     measure_read (written n) (n / 200 % 10) (n / 20 % 10) (n / 2 % 10) (n % 2) m ∙ ap Served (omega arith)
 
 -- a measure is its number, written
-measure_written : (t : List ℕ) (a b c d : ℕ) → Measure t a b c d → (t ≡ written (number a b c d)) × (number a b c d ≤ max_measure)
+pub measure_written : (t : List ℕ) (a b c d : ℕ) → Measure t a b c d → (t ≡ written (number a b c d)) × (number a b c d ≤ max_measure)
 unfolding written
 measure_written t a b c d m =
     let n = number a b c d in

@@ -37,7 +37,7 @@ pub(crate) fn pick(keys: &[u64], n: usize, at: usize) -> Answer
     Answer::default()
 }
 
-// One record is stored.
+// One record is stored: a thin function, as document 01 has it, and so is the next.
 pub(crate) fn put(list: &mut [Answer], at: usize, a: Answer)
     requires { at < length list.old }
     ensures { list.new ≡ set list.old at a }

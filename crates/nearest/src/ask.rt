@@ -5,7 +5,7 @@ ghost use Rattle.seek.specs.Told.{searched_of, Told, Searchable};
 ghost use Rattle.nearest.specs.Asked.{Asked};
 ghost use Rattle.nearest.specs.Promise.{pass_of, joints_of, numbers_of};
 
-use crate::gate::may_ask;
+use crate::gate::{Lengths, may_ask};
 use board::Board;
 use keys::distance::Place;
 use refusal::Refusal;
@@ -44,7 +44,7 @@ pub(crate) fn searched(
     answered(board, p, k, keys, corners, trail).ok_or(Refusal::TrailRoom)
 }
 
-// The question without its answer list, of which it takes the room alone.
+// The question without its answer list, of which it takes the room alone. The other lists are lent one by one, as document 01 names them.
 pub fn asked(
     board: Board,
     p: Place,
@@ -56,6 +56,11 @@ pub fn asked(
 ) -> Result<Found, Refusal>
     ensures { Asked board.entry.height board.entry.bytes.now board.entry.directory.now p k answers keys.old corners.old trail.old result keys.new corners.new trail.new }
 {
-    let passed = may_ask(board, p, k, answers, keys.len(), corners.len());
+    let lengths = Lengths {
+        answers,
+        keys: keys.len(),
+        corners: corners.len(),
+    };
+    let passed = may_ask(board, p, k, lengths);
     searched(passed, board, p, k, keys, corners, trail)
 }

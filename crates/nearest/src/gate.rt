@@ -10,6 +10,14 @@ use board::Board;
 use keys::distance::{Place, is_named};
 use refusal::Refusal;
 
+// How long the lists are that a question is lent, but for the trail's.
+#[derive(Clone, Copy)]
+pub(crate) struct Lengths {
+    pub answers: usize,
+    pub keys: usize,
+    pub corners: usize,
+}
+
 // The most joints that a question may ask for.
 const MAX_WANTED: u32 = 255;
 
@@ -32,48 +40,34 @@ pub(crate) fn may_name(p: Place) -> Result<(), Refusal>
 }
 
 // The last test, of the work lists, over a board of so many joints.
-pub(crate) fn may_work(joints: u32, keys: usize, corners: usize) -> Result<(), Refusal>
-    ensures { pass_of result ≡ (10 unless (leb (max 1 joints) keys && leb (max 1 joints) corners)) }
+pub(crate) fn may_work(joints: u32, lengths: Lengths) -> Result<(), Refusal>
+    ensures { pass_of result ≡ (10 unless (leb (max 1 joints) lengths.keys && leb (max 1 joints) lengths.corners)) }
 {
     let work = work_for(joints);
-    if keys < work || corners < work {
+    if lengths.keys < work || lengths.corners < work {
         return Err(Refusal::WorkRoom);
     }
     Ok(())
 }
 
 // The tests of the question itself, over a board of so many joints.
-fn question_passes(
-    p: Place,
-    k: u32,
-    joints: u32,
-    answers: usize,
-    keys: usize,
-    corners: usize,
-) -> Result<(), Refusal>
-    ensures { pass_of result ≡ room_of p k (max 1 joints) (record { answers = answers; keys = keys; corners = corners; trail = 0 }) }
+fn question_passes(p: Place, k: u32, joints: u32, lengths: Lengths) -> Result<(), Refusal>
+    ensures { pass_of result ≡ room_of p k (max 1 joints) (record { answers = lengths.answers; keys = lengths.keys; corners = lengths.corners; trail = 0 }) }
 {
     may_name(p)?;
     if !(1..=MAX_WANTED).contains(&k) {
         return Err(Refusal::Count);
     }
-    if answers < k as usize {
+    if lengths.answers < k as usize {
         return Err(Refusal::AnswerRoom);
     }
-    may_work(joints, keys, corners)
+    may_work(joints, lengths)
 }
 
 // The tests of the board and of the question.
-pub(crate) fn may_ask(
-    board: Board,
-    p: Place,
-    k: u32,
-    answers: usize,
-    keys: usize,
-    corners: usize,
-) -> Result<(), Refusal>
-    ensures { pass_of result ≡ (check_of board.entry.height board.entry.bytes.now then 6 unless alike board.entry.directory.now (directory_of board.entry.bytes.now) then room_of p k (work_for board.entry.height board.entry.bytes.now) (record { answers = answers; keys = keys; corners = corners; trail = 0 })) }
+pub(crate) fn may_ask(board: Board, p: Place, k: u32, lengths: Lengths) -> Result<(), Refusal>
+    ensures { pass_of result ≡ (check_of board.entry.height board.entry.bytes.now then 6 unless alike board.entry.directory.now (directory_of board.entry.bytes.now) then room_of p k (work_for board.entry.height board.entry.bytes.now) (record { answers = lengths.answers; keys = lengths.keys; corners = lengths.corners; trail = 0 })) }
 {
     let counts = board.ask()?;
-    question_passes(p, k, counts.joints, answers, keys, corners)
+    question_passes(p, k, counts.joints, lengths)
 }

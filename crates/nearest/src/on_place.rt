@@ -6,20 +6,20 @@ ghost use Rattle.nearest.specs.OnPlace.{place_room, on_place, Checked};
 ghost use Rattle.nearest.specs.Promise.{pass_of, numbers_of};
 
 use crate::ask::{Found, searched};
-use crate::gate::{may_name, may_work};
+use crate::gate::{Lengths, may_name, may_work};
 use board::Board;
 use keys::distance::Place;
 use refusal::Refusal;
 
 // Its tests, over a board of so many joints.
-fn place_passes(p: Place, joints: u32, keys: usize, corners: usize) -> Result<(), Refusal>
-    ensures { pass_of result ≡ place_room p (max 1 joints) keys corners }
+fn place_passes(p: Place, joints: u32, lengths: Lengths) -> Result<(), Refusal>
+    ensures { pass_of result ≡ place_room p (max 1 joints) lengths.keys lengths.corners }
 {
     may_name(p)?;
-    may_work(joints, keys, corners)
+    may_work(joints, lengths)
 }
 
-// Its tests, and the search.
+// Its tests, and the search. The lists are lent one by one, as document 01 names them.
 pub fn asked_on(
     board: Board,
     joints: u32,
@@ -32,6 +32,11 @@ pub fn asked_on(
     requires { Checked board.height board.bytes.now board.directory.now joints k }
     ensures { Told (on_place board.entry.height board.entry.bytes.now p k (rooms_of 0 keys.old corners.old trail.old)) board.entry.height board.entry.bytes.now p k keys.old corners.old trail.old (numbers_of result) keys.new corners.new trail.new }
 {
-    let passed = place_passes(p, joints, keys.len(), corners.len());
+    let lengths = Lengths {
+        answers: 0,
+        keys: keys.len(),
+        corners: corners.len(),
+    };
+    let passed = place_passes(p, joints, lengths);
     searched(passed, board, p, k, keys, corners, trail)
 }

@@ -58,7 +58,7 @@ fn nonzero_in(answers: &[Answer]) -> usize {
     })
 }
 
-// One question and its line.
+// One question and its line. What it takes travels together nowhere else.
 fn show_with(
     rt: &impl Print,
     board: Board,

@@ -2,7 +2,7 @@
 #![tactic(auto)]
 
 ghost use Rattle.std.specs.Prelude.{◌≡◌, ◌≤◌, length};
-ghost use Rattle.lines.specs.Report.{room};
+ghost use Rattle.lines.specs.Limits.{room};
 ghost use Rattle.lines.specs.Whole.{BoardIn, Laid, RoomyLists, first_request, max_blocks};
 ghost use Rattle.sheet.specs.Sheet.{max_records, max_bytes};
 
@@ -27,7 +27,7 @@ const JOINTS: usize = 4096;
 // The most boxes of a trail that is printed.
 const TRAIL: usize = 4096;
 
-// Reads until the list is full, the input ends or a read fails; how many bytes were read.
+// Reads until the list is full, the input ends or a read fails; how many bytes were read. By hand: what std reads to the end goes into a `Vec`.
 fn read_full(mut reader: impl Read + Drop, input: &mut [u8]) -> usize
     ensures { result ≤ length input.new }
 {
@@ -89,7 +89,7 @@ fn print_requests(
     print_from(rt, board, sheet, requests, lists, out);
 }
 
-// Prints the report of a sheet.
+// Prints the report of a sheet. What these three functions take is of different kinds, each lent for something else.
 fn print_report(
     rt: &impl Print,
     sheet: &[u8],

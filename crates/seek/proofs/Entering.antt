@@ -7,10 +7,10 @@ use Rattle.search.specs.Keys.{id_of}
 use Rattle.search.specs.Entries.{entry_of}
 use Rattle.keys.specs.Places.{Fits, Corner}
 use Rattle.seek.specs.Lying.{box_from}
-use Rattle.seek.specs.Opening.{BoxOpens}
+use Rattle.seek.specs.Opening.{BoxMayOpen}
 use Rattle.seek.proofs.Lying.{corner_box, corner_begins}
 
-module _ {bytes : List ℕ} {x c g level row col : ℕ} (o : BoxOpens bytes x c) (gr : g ≡ id_of x) (lv : level ≡ c / 2 ^ 24) (r : row ≡ c / 2 ^ 12 % 2 ^ 12) (cl : col ≡ c % 2 ^ 12) where
+module _ {bytes : List ℕ} {x c g level row col : ℕ} (o : BoxMayOpen bytes x c) (gr : g ≡ id_of x) (lv : level ≡ c / 2 ^ 24) (r : row ≡ c / 2 ^ 12 % 2 ^ 12) (cl : col ≡ c % 2 ^ 12) where
   level_is : level ≡ suc o.level
   level_is = lv ∙ o.is.levels
 
@@ -19,7 +19,7 @@ module _ {bytes : List ℕ} {x c g level row col : ℕ} (o : BoxOpens bytes x c)
   entry_fits = rw (level_is, r, cl) (record { low = o.is.low; rows = o.is.rows_fit; columns = o.is.columns_fit })
 
   -- its corner
-  entry_corner : Corner level row col (entry_of x c).box
+  pub entry_corner : Corner level row col (entry_of x c).box
   entry_corner = rw (level_is, r, cl) (record { rows = o.is.rows; columns = o.is.columns })
 
   -- it begins there

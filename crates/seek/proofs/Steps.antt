@@ -26,7 +26,7 @@ use Rattle.search.proofs.Visit.{boxes_kept, joints_kept}
 use Rattle.search.proofs.Boxes.{pending_box, pending_joint, pending_room, length-kids}
 use Rattle.seek.specs.declared.step.Tally.{Tally}
 use Rattle.seek.specs.Pending.{packed, pending_in, Heaped, Taken}
-use Rattle.seek.specs.Opening.{BoxOpens, OnesFit, Opened}
+use Rattle.seek.specs.Opening.{BoxMayOpen, OnesFit, Opened}
 use Rattle.seek.specs.Step.{handed_in, Searching, Goes, Stepped}
 use Rattle.seek.proofs.Lists.{packed_long, packed_at}
 
@@ -107,7 +107,7 @@ module _ (p : Place) (bytes directory : List ℕ) (t : Tally) (ks cs : List ℕ)
       omega (arith, s.handed_out, pending_room p s.height bytes s.sound s.wanted s.underway x c tk.corner_fits was_there rest (omega (arith, s.handed_out, go.fewer)) least tk.leaves)
 
   -- a box may be opened
-  pub step_box : kind_of x ≡ 0 → BoxOpens bytes x c
+  pub step_box : kind_of x ≡ 0 → BoxMayOpen bytes x c
   step_box box =
       let s = go.searching in
       let b = pending_box p s.height bytes s.sound s.wanted s.underway x c tk.corner_fits was_there box in

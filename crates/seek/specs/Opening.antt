@@ -9,7 +9,7 @@ use Rattle.seek.specs.declared.spot.Spot.{Spot}
 use Rattle.seek.specs.Pending.{Added}
 
 -- a box has levels under it, and its group is in the bitmap
-pub record Opens (bytes : List ℕ) (s : Spot) : Type 0 where
+pub record MayOpen (bytes : List ℕ) (s : Spot) : Type 0 where
   pub there : s.group.0 < 2 * length bytes
   pub some : 1 ≤ s.level
 
@@ -24,6 +24,6 @@ pub record Opened (p : Place) (es : List Entry) (n : ℕ) (keys corners : List �
   pub added : Added n (map (pack_of p) es) keys corners keys' corners'
 
 -- the entry of key x and corner c is a box that may be opened: what its corner says is its own
-pub record BoxOpens (bytes : List ℕ) (x c : ℕ) : Type 0 where
+pub record BoxMayOpen (bytes : List ℕ) (x c : ℕ) : Type 0 where
   pub level : ℕ
   pub is : BoxIs bytes x c (entry_of x c) level

@@ -24,7 +24,7 @@ fn clear_before(keys: &mut [u64], n: usize)
 }
 
 // The search of a question: the tests of board, place, count and work lists are behind it. Nothing is found where the trail is longer than
-// its list.
+// its list. The lists are lent one by one, as document 01 names them.
 pub fn answered(
     board: Board,
     p: Place,

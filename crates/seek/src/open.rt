@@ -9,7 +9,7 @@ ghost use Rattle.keys.specs.Places.{place_of};
 ghost use Rattle.seek.specs.Spots.{box_of};
 ghost use Rattle.seek.specs.Works.{SameLists};
 ghost use Rattle.seek.specs.Pending.{Added};
-ghost use Rattle.seek.specs.Opening.{Opens, OnesFit, Opened};
+ghost use Rattle.seek.specs.Opening.{MayOpen, OnesFit, Opened};
 
 use crate::question::Question;
 use crate::spot::Spot;
@@ -50,7 +50,7 @@ impl Work<'_> {
     // A box is opened: its ones become pending.
     #[tactic(auto, using(crate::proofs::Quarter::kids_by_bits))]
     pub(crate) fn open_box(&mut self, q: Question, s: Spot, pending: usize) -> usize
-        requires { (Opens q.board.bytes.now s) × (OnesFit (group_at q.board.bytes.now s.group.0) pending (length self.old.keys.now) (length self.old.corners.now)) }
+        requires { (MayOpen q.board.bytes.now s) × (OnesFit (group_at q.board.bytes.now s.group.0) pending (length self.old.keys.now) (length self.old.corners.now)) }
         ensures same_lists { SameLists self.old self.new }
         ensures opened { Opened (place_of q.entry.place) (kids_at q.entry.board.bytes.now s.level s.group.0 (box_of s)) pending self.old.keys.now self.old.corners.now result self.new.keys.now self.new.corners.now }
     {

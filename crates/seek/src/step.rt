@@ -7,7 +7,7 @@ ghost use Rattle.search.specs.Keys.{id_of};
 ghost use Rattle.search.specs.Entries.{entry_of};
 ghost use Rattle.keys.specs.Places.{place_of};
 ghost use Rattle.seek.specs.Works.{SameLists};
-ghost use Rattle.seek.specs.Opening.{BoxOpens, OnesFit, Opened};
+ghost use Rattle.seek.specs.Opening.{BoxMayOpen, OnesFit, Opened};
 ghost use Rattle.seek.specs.Step.{Goes, Stepped};
 
 use crate::pending::Entry;
@@ -48,7 +48,7 @@ impl Work<'_> {
 
     // The box of an entry that left is opened.
     fn open_entry(&mut self, q: Question, e: Entry, pending: usize) -> usize
-        requires { (BoxOpens q.board.bytes.now e.key e.corner) × (OnesFit (group_at q.board.bytes.now (id_of e.key)) pending (length self.old.keys.now) (length self.old.corners.now)) }
+        requires { (BoxMayOpen q.board.bytes.now e.key e.corner) × (OnesFit (group_at q.board.bytes.now (id_of e.key)) pending (length self.old.keys.now) (length self.old.corners.now)) }
         ensures same_lists { SameLists self.old self.new }
         ensures opened { Opened (place_of q.entry.place) (kids q.entry.board.bytes.now (entry_of e.key e.corner)) pending self.old.keys.now self.old.corners.now result self.new.keys.now self.new.corners.now }
     {

@@ -1,5 +1,6 @@
 // What the bench tablet calls, with numbers and byte strings only. Each call returns the number of refusal, 0 where it is served; the values go
 // into numbers that the caller lends, one by one as C has them, and are zero after a refusal.
+// The two that read a measure are alike but for the type, of which C has no parameter.
 #![tactic(auto)]
 
 ghost use Rattle.std.specs.Prelude.{◌≡◌, [], ◌∷◌, pos, length};

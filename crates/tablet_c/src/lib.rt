@@ -1,4 +1,5 @@
 // What the bench tablet's host calls from C: the calls of `tablet` under their names in C, each with its promise.
+// What is lent is lent one by one, as C has it.
 #![tactic(auto)]
 
 ghost use Rattle.std.specs.Prelude.{◌≡◌, [], ◌∷◌, pos, length};

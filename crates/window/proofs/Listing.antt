@@ -20,7 +20,7 @@ use Rattle.board.specs.Levels.{Box}
 use Rattle.board.specs.Under.{quarter, under, first_child, if_one, at_quarter}
 use Rattle.window.specs.Window.{row_of, column_of}
 use Rattle.window.specs.Span.{within, meets_span}
-use Rattle.window.specs.Listing.{Listed, box_of, under_spot, Stood}
+use Rattle.window.specs.Listing.{Listed, box_of, under_spot, StoodOn}
 use Rattle.board.proofs.Rank.{rank_is_place}
 use Rattle.board.proofs.Codes.{box_path}
 use Rattle.board.proofs.Under.{rank_child, at_quarter_lem, under_quarters}
@@ -106,8 +106,8 @@ unfolding quarter
 quarter_box s q c t i = box_path _ _ i.2 i.3
 
 -- a quarter whose bit is one stands at its place
-pub quarter_stood : (bytes : List ℕ) (s : Spot) (q c : ℕ) (t : Spot) → Stood bytes s → 1 ≤ s.left → q < 4
-    → IsChild bytes s q c → IsQuarter s q c t → 1 ≤ bit_of (group_at bytes s.group.0) q → Stood bytes t
+pub quarter_stood : (bytes : List ℕ) (s : Spot) (q c : ℕ) (t : Spot) → StoodOn bytes s → 1 ≤ s.left → q < 4
+    → IsChild bytes s q c → IsQuarter s q c t → 1 ≤ bit_of (group_at bytes s.group.0) q → StoodOn bytes t
 quarter_stood bytes s q c t st l k e i one =
     let g : ℕ = s.group.0 in
     let bit : bit_at bytes (4 * g + q) ≡ 1 = omega (arith, bit_of_group bytes g q k, bit_small (group_at bytes g) q) in

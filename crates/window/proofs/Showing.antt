@@ -28,7 +28,7 @@ use Rattle.board.specs.Check.{check_of}
 use Rattle.board.specs.Ready.{Ready, asked_of}
 use Rattle.window.specs.Window.{Window, inside, found, ends_fit, window_fits, roomed, window_of, window_numbers, row_of, column_of, Shown}
 use Rattle.window.specs.Span.{within, raised}
-use Rattle.window.specs.Listing.{Listed, under_spot, Stood}
+use Rattle.window.specs.Listing.{Listed, under_spot, StoodOn}
 use Rattle.board.proofs.Rank.{stands_root}
 use Rattle.board.proofs.Under.{joints_under_lem}
 use Rattle.window.proofs.Spans.{inside_raised}
@@ -127,7 +127,7 @@ found_raised w h bytes = keep_same (inside w) (within (raised w)) (inside_raised
 
 module _ (h : ℕ) (bytes d : List ℕ) (s : Spot) (i : IsWhole h s) where
   -- it is a box of the board
-  pub whole_stood : Ready h bytes d → Stood bytes s
+  pub whole_stood : Ready h bytes d → StoodOn bytes s
   whole_stood r =
       let none : h - s.left ≡ 0 = omega (arith, i.0) in
       record { height = h; ready = rw r.ranked at r; tall = omega (arith, i.0); stands = rw (none, i.1, i.2, i.3) (stands_root bytes) }

@@ -7,12 +7,12 @@ use native.Mathlib.Nat.{add-zero, add-suc, mul-one, mul_assoc, pow-suc, suc-mul,
 use lib.ListN.{length}
 use Rattle.window.specs.declared.Spot.{Spot}
 use Rattle.board.specs.Limits.{max_height}
-use Rattle.window.specs.Listing.{box_of, Stood}
+use Rattle.window.specs.Listing.{box_of, StoodOn}
 use Rattle.board.proofs.Down.{stands_within}
 use Rattle.board.proofs.Under.{stands_small}
 
 -- a box's group lies within the bytes
-pub group_within : (bytes : List ℕ) (s : Spot) → Stood bytes s → 1 ≤ s.left → s.group.0 < 2 * length bytes
+pub group_within : (bytes : List ℕ) (s : Spot) → StoodOn bytes s → 1 ≤ s.left → s.group.0 < 2 * length bytes
 group_within bytes s t l =
     (stands_within t.height bytes _ (t.height - s.left) s.group.0 (box_of s) t.ready t.stands (omega (arith, t.tall, t.ready.valid.tall))).0
 
@@ -37,7 +37,7 @@ pub record Fits (s : Spot) : Type 0 where
   pub column : s.column < 2 ^ max_height
 
 -- they are those of the largest board at most
-pub stood_fits : (bytes : List ℕ) (s : Spot) → Stood bytes s → Fits s
+pub stood_fits : (bytes : List ℕ) (s : Spot) → StoodOn bytes s → Fits s
 stood_fits bytes s t =
     let small = stands_small bytes (t.height - s.left) s.group.0 (box_of s) t.stands in
     let most : 2 ^ t.height ≤ 2 ^ max_height = pow-le-pow_right {n = 2} (omega arith) {i = t.height} {j = max_height} t.ready.low in

@@ -26,7 +26,7 @@ abbrev pub under_spot : List ℕ → Spot → List Box
 under_spot bytes s = under bytes s.left s.group.0 (box_of s)
 
 -- it is a box, or a joint, of a board that may be asked with its own directory
-pub record Stood (bytes : List ℕ) (s : Spot) : Type 0 where
+pub record StoodOn (bytes : List ℕ) (s : Spot) : Type 0 where
   pub height : ℕ
   pub ready : Ready height bytes (directory_of bytes)
   pub tall : s.left ≤ height

@@ -9,7 +9,7 @@ ghost use Rattle.board.specs.Levels.{joints};
 ghost use Rattle.board.specs.Ready.{Ready};
 ghost use Rattle.window.specs.Window.{ends_fit, window_fits, ends, found, roomed, window_of, Shown};
 ghost use Rattle.window.specs.Span.{within, meets_span};
-ghost use Rattle.window.specs.Listing.{Listed, Stood, under_spot};
+ghost use Rattle.window.specs.Listing.{Listed, StoodOn, under_spot};
 
 use bitmap::{GroupNo, Ranked, bit_in, group_at};
 use board::{Board, side};
@@ -104,10 +104,11 @@ impl Cells<'_> {
 }
 
 // Lists a quarter, where its bit is one: as a cell where no level is left, and else as a box. One beside the pane is not gone into.
+// What it takes travels together nowhere else.
 #[cycle(list_box_list_quarter)]
 #[tactic(auto, using(crate::proofs::Standing::stood_fits, crate::proofs::Standing::side_small, crate::proofs::Listing::if_one_some, crate::proofs::Listing::spot_cell))]
 fn list_quarter(ranked: Ranked, pane: Pane, s: Spot, one: u32, n: u32, cells: &mut Cells) -> u32
-    requires { ((1 ≤ one) → Stood ranked.bytes.now s) × (n + length (if_one one (under_spot ranked.bytes.now s)) < 2 ^ 32) }
+    requires { ((1 ≤ one) → StoodOn ranked.bytes.now s) × (n + length (if_one one (under_spot ranked.bytes.now s)) < 2 ^ 32) }
     ensures same_rows { cells.new.rows.ghost_name ≡ cells.old.rows.ghost_name }
     ensures same_columns { cells.new.columns.ghost_name ≡ cells.old.columns.ghost_name }
     ensures listed { Listed pane (if_one one (under_spot ranked.entry.bytes.now s)) n result cells.old.rows.now cells.new.rows.now cells.old.columns.now cells.new.columns.now }
@@ -125,7 +126,7 @@ fn list_quarter(ranked: Ranked, pane: Pane, s: Spot, one: u32, n: u32, cells: &m
 // Lists a box by its quarters in order. One rank gives the group of its first one, and the next ones have the groups after it.
 #[cycle(list_box_list_quarter)]
 fn list_box(ranked: Ranked, pane: Pane, s: Spot, n: u32, cells: &mut Cells) -> u32
-    requires { Stood ranked.bytes.now s × (1 ≤ s.left) × (n + length (under_spot ranked.bytes.now s) < 2 ^ 32) }
+    requires { StoodOn ranked.bytes.now s × (1 ≤ s.left) × (n + length (under_spot ranked.bytes.now s) < 2 ^ 32) }
     ensures same_rows { cells.new.rows.ghost_name ≡ cells.old.rows.ghost_name }
     ensures same_columns { cells.new.columns.ghost_name ≡ cells.old.columns.ghost_name }
     ensures listed { Listed pane (under_spot ranked.entry.bytes.now s) n result cells.old.rows.now cells.new.rows.now cells.old.columns.now cells.new.columns.now }
@@ -192,9 +193,8 @@ fn window_fits(
 }
 
 // The stored cells in a window, of any bytes with any directory: their rows and columns in bitmap order, and zeros after them. The four
-// ends are inside the window, so each highest is raised by one to make a span.
+// ends are inside the window, so each highest is raised by one to make a span. Ends and lists are given one by one, as document 01 names them.
 #[tactic(auto, using(board::proofs::Asking::asked_ready, crate::proofs::Showing::ends_small), unfolding(crate::specs::Window::ends_fit))]
-// The two lists are lent one by one, as document 01 names them.
 pub fn window(
     board: Board,
     lowest_row: u32,

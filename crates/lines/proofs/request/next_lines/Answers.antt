@@ -1,5 +1,5 @@
 use native.Mathlib.Omega.{arith}
-use Rattle.lines.proofs.Desk.{board_low, desk_rows, desk_trail}
+use Rattle.lines.proofs.Desk.{board_low}
 use Rattle.lines.proofs.request.next_lines.Goals as goal
 
 pub chunk_at-next-requires : goal.chunk_at-next-requires
@@ -8,7 +8,5 @@ chunk_at-next-requires c =
     let pre = c.requires in (
       pre.1,
       board_low g.sheet.now g.board.height g.board.bytes.now pre.0.board,
-      omega (arith, desk_rows _ _ _ _ _ _ _ _ _ pre.0),
-      omega (arith, desk_trail _ _ _ _ _ _ _ _ _ pre.0),
       omega (arith, pre.2),
     )
