@@ -46,6 +46,12 @@ coding_small h r c left found low k =
     let few : 4 ^ (h - left) ≤ 4 ^ 12 = pow-le-pow_right {n = 4} (omega arith) le in
     omega (arith, code_below (h - left) (r / 2 ^ left) (c / 2 ^ left), k.is)
 
+-- the cell at a place, and those behind it
+cells_at : (rows columns : List ℕ) (i : ℕ) → i < length rows → length rows ≡ length columns
+    → cells_of (drop i rows) (drop i columns) ≡ record { row = get_or rows i 0; col = get_or columns i 0 } ∷ cells_of (drop (suc i) rows) (drop (suc i) columns)
+unfolding cells_of
+cells_at rows columns i lt e = rw (drop-cons rows i 0 lt, drop-cons columns i 0 (omega arith))
+
 -- every row and column in one place are a cell on the board
 tested_all : (h : ℕ) (rows columns : List ℕ) → AllWithin (λ (p : ℕ × ℕ). on_board h p.0 p.1 ≡ true) (zip rows columns) 0 (length (zip rows columns)) → all_on h (cells_of rows columns) ≡ true
 unfolding all_on cells_of

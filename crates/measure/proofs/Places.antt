@@ -13,7 +13,7 @@ use Rattle.refusal.proofs.Tests.{both, fails}
 use Rattle.measure.specs.Measure.{is_digit, is_comma, is_half, measure, has_form, of_digits, value_of, read_of}
 
 -- a text that has a form has a byte for each place
-has-length : (form : List (ℕ → Bool)) (t : List ℕ) → has_form form t ≡ true → length t ≡ length form
+pub has-length : (form : List (ℕ → Bool)) (t : List ℕ) → has_form form t ≡ true → length t ≡ length form
 unfolding has_form
 has-length [] [] e = refl
 has-length [] (b ∷ t) e = cc

@@ -1,10 +1,10 @@
 -- Stores in the two work lists as stores of entries: taking one out, and adding some.
 use Prim.Native.Nat.{ℕ, zero, suc, ◌+◌, ◌≤◌, ◌<◌}
-use mathlib.Core.Path.{◌≡◌, refl, ◌∙◌}
+use mathlib.Core.Path.{◌≡◌, refl, ap, ◌∙◌}
 use mathlib.Core.List.{List, [], ◌∷◌, ◌++◌}
 use native.Mathlib.Omega.{arith}
 use native.Mathlib.Nat.{add-zero}
-use lib.ListN.{length, get_or, length-append}
+use lib.ListN.{length, get_or, set, length-append}
 use Rattle.order.specs.Bag.{count}
 use Rattle.order.proofs.Bag.{count-append}
 use Rattle.search.specs.Entries.{pack}
@@ -25,6 +25,15 @@ packed_at i [] cs h l = absurd (omega arith)
 packed_at i (k ∷ ks) [] h l = absurd (omega arith)
 packed_at zero (k ∷ ks) (c ∷ cs) h l = refl
 packed_at (suc i) (k ∷ ks) (c ∷ cs) h l = packed_at i ks cs (omega arith) (omega arith)
+
+-- a store in both lists is a store of an entry
+pub packed-set : (i k c : ℕ) (ks cs : List ℕ) → packed (set ks i k) (set cs i c) ≡ set (packed ks cs) i (pack k c)
+unfolding packed
+packed-set i k c [] cs = refl
+packed-set zero k c (x ∷ ks) [] = refl
+packed-set (suc i) k c (x ∷ ks) [] = refl
+packed-set zero k c (x ∷ ks) (y ∷ cs) = refl
+packed-set (suc i) k c (x ∷ ks) (y ∷ cs) = ap (λ (l : List ℕ). pack x y ∷ l) (packed-set i k c ks cs)
 
 -- nothing is added
 pub added_none : (n : ℕ) (ks cs : List ℕ) → Added n [] ks cs ks cs

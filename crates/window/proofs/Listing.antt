@@ -161,6 +161,11 @@ module _ (p : Pane) (bytes : List ℕ) (s : Spot) where
       = ap (under_to bytes (s.left - 1) s.group.0 (box_of s)) e ∙ under_four bytes (s.left - 1) s.group.0 (box_of s) ∙ ap (λ (x : ℕ). under bytes x s.group.0 (box_of s)) (sym down) in
       rw (← all) a
 
+-- a list where the bit is zero is empty
+pub if_one_none : {A : Type 0} (n : ℕ) (xs : List A) → n ≡ 0 → if_one n xs ≡ []
+unfolding if_one
+if_one_none n xs e = rw e
+
 -- where the bit is one, a list is whole
 pub if_one_some : {A : Type 0} (n : ℕ) (xs : List A) → 1 ≤ n → if_one n xs ≡ xs
 unfolding if_one
