@@ -37,11 +37,12 @@ fn ones_of_run(bytes: &[u8], group: GroupNo, left: u32) -> Option<u32>
     ensures { IfSome result (λ ones. (ones ≤ 64) × (run ≤ left) × Sound16 bytes.now group.0 ones) }
 {
     let number = group.number();
-    if left < RUN || number % 2 != 0 {
+    // First and alone, and whether the group begins a byte last: measured, in another order the check of a board of few joints takes twice the time.
+    if left < RUN {
         return None;
     }
     let at = (number / 2) as usize;
-    if bytes.len() < at + 8 {
+    if bytes.len() < at + 8 || number % 2 != 0 {
         return None;
     }
     let word = word_at(bytes, at);
