@@ -41,6 +41,10 @@ put_more word was is at i h j p =
     let next : at + i + 1 ≡ at + (i + 1) = omega arith in
     rw (add-one i, take-suc word i 0 h) (rw (next, add-one i) at more)
 
+-- the same by the place behind those that are put
+pub put_letter : (word : List ℕ) (i : ℕ) {at m : ℕ} {was is : List ℕ} → i < length word → m < length is → Put (take i word) at was m is → Put (take (i + 1) word) at was (m + 1) (set is m (get_or word i 0))
+put_letter word i {at} {m} {was} {is} h j p = rw (add-one i, take-suc word i 0 h) (put_then p (put_one (get_or word i 0) m is j))
+
 -- what the first parts of a list make, and one part more
 parts_more : {A : Type 0} (f : A → List ℕ) (l : List A) (i : ℕ) (d : A) → i < length l → flat_map f (take (i + 1) l) ≡ flat_map f (take i l) ++ f (get_or l i d)
 unfolding flat_map

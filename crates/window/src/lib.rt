@@ -104,14 +104,14 @@ impl Cells<'_> {
 }
 
 // Lists a quarter, where its bit is one: as a cell where no level is left, and else as a box. One beside the pane is not gone into.
-// What it takes travels together nowhere else.
+// What it takes travels together nowhere else. The bitmap is lent with its directory, so that a call copies neither.
 #[cycle(list_box_list_quarter)]
 #[tactic(auto, using(crate::proofs::Standing::stood_fits, crate::proofs::Standing::side_small, crate::proofs::Listing::if_one_some, crate::proofs::Listing::spot_cell))]
-fn list_quarter(ranked: Ranked, pane: Pane, s: Spot, one: u32, n: u32, cells: &mut Cells) -> u32
-    requires { ((1 ≤ one) → StoodOn ranked.bytes.now s) × (n + length (if_one one (under_spot ranked.bytes.now s)) < 2 ^ 32) }
+fn list_quarter(ranked: &Ranked, pane: Pane, s: Spot, one: u32, n: u32, cells: &mut Cells) -> u32
+    requires { ((1 ≤ one) → StoodOn ranked.now.bytes.now s) × (n + length (if_one one (under_spot ranked.now.bytes.now s)) < 2 ^ 32) }
     ensures same_rows { cells.new.rows.ghost_name ≡ cells.old.rows.ghost_name }
     ensures same_columns { cells.new.columns.ghost_name ≡ cells.old.columns.ghost_name }
-    ensures listed { Listed pane (if_one one (under_spot ranked.entry.bytes.now s)) n result cells.old.rows.now cells.new.rows.now cells.old.columns.now cells.new.columns.now }
+    ensures listed { Listed pane (if_one one (under_spot ranked.now.bytes.now s)) n result cells.old.rows.now cells.new.rows.now cells.old.columns.now cells.new.columns.now }
 {
     if one == 0 || !meets(pane.rows, s.left, s.row) || !meets(pane.columns, s.left, s.column) {
         return n;
@@ -125,11 +125,11 @@ fn list_quarter(ranked: Ranked, pane: Pane, s: Spot, one: u32, n: u32, cells: &m
 
 // Lists a box by its quarters in order. One rank gives the group of its first one, and the next ones have the groups after it.
 #[cycle(list_box_list_quarter)]
-fn list_box(ranked: Ranked, pane: Pane, s: Spot, n: u32, cells: &mut Cells) -> u32
-    requires { StoodOn ranked.bytes.now s × (1 ≤ s.left) × (n + length (under_spot ranked.bytes.now s) < 2 ^ 32) }
+fn list_box(ranked: &Ranked, pane: Pane, s: Spot, n: u32, cells: &mut Cells) -> u32
+    requires { StoodOn ranked.now.bytes.now s × (1 ≤ s.left) × (n + length (under_spot ranked.now.bytes.now s) < 2 ^ 32) }
     ensures same_rows { cells.new.rows.ghost_name ≡ cells.old.rows.ghost_name }
     ensures same_columns { cells.new.columns.ghost_name ≡ cells.old.columns.ghost_name }
-    ensures listed { Listed pane (under_spot ranked.entry.bytes.now s) n result cells.old.rows.now cells.new.rows.now cells.old.columns.now cells.new.columns.now }
+    ensures listed { Listed pane (under_spot ranked.now.bytes.now s) n result cells.old.rows.now cells.new.rows.now cells.old.columns.now cells.new.columns.now }
 {
     let bits = group_at(ranked.bytes, s.group);
     let mut child = ranked.first_child(s.group);
@@ -160,7 +160,7 @@ fn list_pane(board: Board, pane: Pane, cells: &mut Cells) -> Result<u32, Refusal
         bytes: board.bytes,
         directory: board.directory,
     };
-    let count = list_box(ranked, pane, whole, 0, cells);
+    let count = list_box(&ranked, pane, whole, 0, cells);
     let places = count as usize;
     if cells.rows.len() < places || cells.columns.len() < places {
         cells.clear();
