@@ -8,7 +8,7 @@ use board::Board;
 use board::directory::make_directory;
 use nearest::answer::Answer;
 use nearest::nearest;
-use say::{Spaced, nonzero};
+use say::{In, Out, Spaced, nonzero};
 use std::io::Read;
 use std::{fmt, io};
 
@@ -166,15 +166,19 @@ fn show_rooms(rt: &impl Print) -> io::Result<()> {
     show_a(rt, &[1], 1, 4, 4, 2)
 }
 
-fn main(rt: HostRuntime) -> io::Result<()> {
-    show_rooms(&rt)?;
-    let mut input = rt.stdin().take(STREAM as u64);
+fn show_cases(rt: &impl Print, input: &mut impl Read) -> io::Result<()> {
     let mut space = [0; STREAM];
     for _ in 0..STREAM {
-        let Ok(case) = read_case(&mut input, &mut space) else {
+        let Ok(case) = read_case(input, &mut space) else {
             break;
         };
-        show_case(&rt, &space[..case.length], case)?;
+        show_case(rt, &space[..case.length], case)?;
     }
     Ok(())
+}
+
+// What cannot be printed is left out.
+fn main() {
+    let _ = show_rooms(&Out);
+    let _ = show_cases(&Out, &mut In.take(STREAM as u64));
 }

@@ -11,7 +11,6 @@ use lines::request::next_lines;
 use lines::start::first_line;
 use lines::{Lists, ROOM};
 use sheet::{MAX_RECORDS, MAX_SHEET};
-use std::io::Read;
 
 // One byte more than the longest sheet has, so that a longer one is told from it.
 const INPUT: usize = MAX_SHEET + 1;
@@ -27,47 +26,21 @@ const JOINTS: usize = 4096;
 // The most boxes of a trail that is printed.
 const TRAIL: usize = 4096;
 
-// Reads until the list is full, the input ends or a read fails; how many bytes were read. By hand: what std reads to the end goes into a `Vec`.
-fn read_full(mut reader: impl Read + Drop, input: &mut [u8]) -> usize
-    ensures { result ≤ length input.new }
-{
-    let mut done = 0;
-    while done < input.len() {
-        match reader.read(&mut input[done..]) {
-            Ok(0) | Err(_) => break,
-            Ok(n) => done += n,
-        }
-    }
-    done
-}
-
-// Prints bytes in one write. What cannot be written is left out, and the report goes on.
-fn print(rt: &impl Print, bytes: &[u8]) {
-    let _ = rt.write_all(bytes);
-}
-
-// Prints the lines of the records from the first after the joints on, each record's in one write, with the board on the program's desk.
-fn print_from(
-    rt: &impl Print,
-    board: Board,
-    sheet: &[u8],
-    requests: usize,
-    lists: &mut Lists,
-    out: &mut [u8],
-)
+// Prints the lines of the records from the first after the joints on, each record's in one write, with the board on the program's desk. What cannot
+// be written is left out, and the report goes on.
+fn print_from(board: Board, sheet: &[u8], requests: usize, lists: &mut Lists, out: &mut [u8])
     requires { Laid sheet.now board lists.old × (requests ≡ first_request sheet.now) × (room ≤ length out.old) }
 {
     let mut at = requests;
     while at < sheet.len() {
         let chunk = next_lines(board, sheet, at, lists, out);
-        print(rt, &out[..chunk.length]);
+        io::write_all(1, &out[..chunk.length]);
         at = chunk.next;
     }
 }
 
 // Prints the lines of the questions and windows of a sheet, and the end, with the directory of its board.
 fn print_requests(
-    rt: &impl Print,
     height: u32,
     bytes: &[u8],
     blocks: &mut [u16],
@@ -86,12 +59,11 @@ fn print_requests(
         bytes,
         directory: &blocks[..count],
     };
-    print_from(rt, board, sheet, requests, lists, out);
+    print_from(board, sheet, requests, lists, out);
 }
 
 // Prints the report of a sheet. What these three functions take is of different kinds, each lent for something else.
 fn print_report(
-    rt: &impl Print,
     sheet: &[u8],
     work: &mut [u32],
     bitmap: &mut [u8],
@@ -102,26 +74,17 @@ fn print_report(
     requires { (length work.old ≡ max_records) × (length bitmap.old ≡ max_bytes) × (max_blocks ≤ length blocks.old) × RoomyLists lists.old × (room ≤ length out.old) }
 {
     let begun = first_line(sheet, work, bitmap, out);
-    print(rt, &out[..begun.end]);
+    io::write_all(1, &out[..begun.end]);
     if let Some(size) = begun.board {
         let bytes = &bitmap[..size.length as usize];
-        print_requests(
-            rt,
-            size.height,
-            bytes,
-            blocks,
-            sheet,
-            size.requests,
-            lists,
-            out,
-        );
+        print_requests(size.height, bytes, blocks, sheet, size.requests, lists, out);
     }
 }
 
 // There is room for the longest sheet and its joints, for the largest bitmap and its directory, and for every answer but the longest trails.
-fn main(rt: HostRuntime) {
+fn main() {
     let mut input = [0u8; INPUT];
-    let n = read_full(rt.reader(), &mut input);
+    let n = io::read_full(0, &mut input);
     let mut work = [0u32; MAX_RECORDS];
     let mut bitmap = [0u8; BITMAP];
     let mut blocks = [0u16; BLOCKS];
@@ -139,7 +102,6 @@ fn main(rt: HostRuntime) {
     };
     let mut out = [0u8; ROOM];
     print_report(
-        &rt,
         &input[..n],
         &mut work,
         &mut bitmap,

@@ -2,7 +2,7 @@
 // each case, in the form of the second program (tests/second), so that the two can be compared.
 #![tactic(auto)]
 
-use say::{nonzero, read_number};
+use say::{In, Out, nonzero, read_number};
 use std::io::Read;
 use std::{fmt, io};
 
@@ -82,13 +82,12 @@ fn show_case(
 }
 
 // A case that is cut off ends the stream.
-fn main(rt: HostRuntime) -> io::Result<()> {
-    let mut input = rt.stdin();
+fn show_cases(rt: &impl Print, input: &mut impl Read) -> io::Result<()> {
     let mut space = [0; SHEET_ROOM];
     let mut work = [0; WORK_ROOM];
     let mut bitmap = [0; BITMAP_ROOM];
     for _ in 0..CASES {
-        let Ok(head) = read_head(&mut input) else {
+        let Ok(head) = read_head(input) else {
             break;
         };
         let sheet = &mut space[..head.length.min(SHEET_ROOM)];
@@ -97,7 +96,12 @@ fn main(rt: HostRuntime) -> io::Result<()> {
         }
         let work = &mut work[..head.work.min(WORK_ROOM)];
         let bitmap = &mut bitmap[..head.bitmap.min(BITMAP_ROOM)];
-        show_case(&rt, sheet, work, bitmap)?;
+        show_case(rt, sheet, work, bitmap)?;
     }
     Ok(())
+}
+
+// What cannot be printed is left out.
+fn main() {
+    let _ = show_cases(&Out, &mut In);
 }

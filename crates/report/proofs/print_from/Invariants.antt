@@ -6,7 +6,7 @@ use Rattle.lines.specs.Lists.{Kept}
 use Rattle.report.proofs.print_from.Given as goal
 
 abbrev pub invariant-loop-at : goal.invariant-loop-at
-invariant-loop-at g l = Kept l.initial.lists l.lists × (length l.out ≡ length l.initial.out)
+invariant-loop-at l = Kept l.initial.lists l.lists × (length l.out ≡ length l.initial.out)
 
 abbrev pub decreases-loop-at : goal.decreases-loop-at
-decreases-loop-at g l = length l.sheet - l.at
+decreases-loop-at l = length l.sheet - l.at

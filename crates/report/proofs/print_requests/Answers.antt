@@ -9,19 +9,19 @@ use Rattle.report.proofs.print_requests.Goals as goal
 
 pub slice_bounds-make_directory-end : goal.slice_bounds-make_directory-end
 unfolding blocks
-slice_bounds-make_directory-end g c =
+slice_bounds-make_directory-end c =
     let a = c.args in
     omega (arith, c.blocks_of-count.ensures, board_short a.sheet.now a.height a.bytes.now c.requires.0)
 
 pub slice_bounds-make_directory-end-2 : goal.slice_bounds-make_directory-end-2
 unfolding blocks
-slice_bounds-make_directory-end-2 g c =
+slice_bounds-make_directory-end-2 c =
     let a = c.args in
     sym (length-take-le _ _ (omega (arith, c.blocks_of-count.ensures, board_short a.sheet.now a.height a.bytes.now c.requires.0)))
 
 pub slice_bounds-board-end : goal.slice_bounds-board-end
 unfolding blocks
-slice_bounds-board-end g c =
+slice_bounds-board-end c =
     let a = c.args in
     let count = c.blocks_of-count.result in
     let list = a.blocks.now in
@@ -31,11 +31,11 @@ slice_bounds-board-end g c =
     simp (length-append, length-drop) (omega (arith, length-take-le count list few))
 
 pub slice_bounds-board-end-2 : goal.slice_bounds-board-end-2
-slice_bounds-board-end-2 g c = sym (length-take-le _ _ (slice_bounds-board-end g c))
+slice_bounds-board-end-2 c = sym (length-take-le _ _ (slice_bounds-board-end c))
 
 pub print_from-requires : goal.print_from-requires
 unfolding blocks
-print_from-requires g c =
+print_from-requires c =
     let a = c.args in
     let pre = c.requires in
     let count = c.blocks_of-count.result in
